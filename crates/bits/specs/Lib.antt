@@ -1,0 +1,4 @@
+pub mod Sums
+pub mod Bit
+pub mod Places
+pub mod Indices
