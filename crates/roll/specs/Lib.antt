@@ -1,0 +1,4 @@
+pub mod Refusals
+pub mod Members
+pub mod Roll
+pub mod Answers
