@@ -26,8 +26,9 @@ from-one n k h l =
 pub first-high : (w n k : ℕ) → w < 2 ^ 64 → n < 64 → n ≤ k → bit (bitAnd w (from n)) k ≡ bit w k
 first-high w n k q h l =
     elim (cases-lt k 64) [
-      inl b ↦ omega (arith, bit-and w (from n) k, from-one n k l b, bit-lt w k)
-    | inr b ↦ bit-past 64 (bitAnd w (from n)) k (omega (arith, and-le-l w (from n))) b ∙ sym (bit-past 64 w k q b) ]
+      | inl b ↦ omega (arith, bit-and w (from n) k, from-one n k l b, bit-lt w k)
+      | inr b ↦ bit-past 64 (bitAnd w (from n)) k (omega (arith, and-le-l w (from n))) b ∙ sym (bit-past 64 w k q b)
+    ]
 
 -- the same as a number: what is left of w once its n low digits are gone, moved back up
 pub bit-shr : (n w k : ℕ) → bit (w / 2 ^ n) k ≡ bit w (n + k)
@@ -51,9 +52,10 @@ pub masked : (w n : ℕ) → w < 2 ^ 64 → n < 64 → bitAnd w (from n) ≡ cut
 masked w n q h =
     bits-same 64 _ _ (omega (arith, and-le-l w (from n))) (omega (arith, cut-le n w))
     (λ k l.
-      elim (cases-lt k n) [
-        inl b ↦ first-low w n k h b ∙ sym (cut-low n w k b)
-      | inr b ↦ first-high w n k q h b ∙ sym (cut-high n w k b) ])
+    elim (cases-lt k n) [
+      | inl b ↦ first-low w n k h b ∙ sym (cut-low n w k b)
+      | inr b ↦ first-high w n k q h b ∙ sym (cut-high n w k b)
+    ])
 
 pub emptied : (w n : ℕ) → w < 2 ^ 64 → 64 ≤ n → cut n w ≡ 0
 emptied w n q h =

@@ -37,14 +37,15 @@ scan-lost : (n k w i v : ℕ) → Lost w i v → k ≤ i → i < k + n → scan 
 scan-lost zero k w i v h p q = absurd (omega arith)
 scan-lost (suc n) k w i v h p q =
     elim (cases-eq k i) [
-      inl e ↦
-        scan-one n k w (ap (bit w) e ∙ h .one)
-        ∙ ap (λ r. k ∷ r) (scan-same n (suc k) w v (λ l s. sym (h .rest l (λ d. omega arith))) ∙ sym (scan-none n k v (ap (bit v) e ∙ h .gone)))
-        ∙ ap (λ x. x ∷ scan (suc n) k v) e
-    | inr d ↦
-        let l : k < i = omega arith in
-        let z = h .lowest k l in
-        scan-none n k w z ∙ scan-lost n (suc k) w i v h (omega arith) (omega arith) ∙ ap (λ r. i ∷ r) (sym (scan-none n k v (h .rest k d ∙ z))) ]
+      | inl e ↦
+          scan-one n k w (ap (bit w) e ∙ h .one)
+          ∙ ap (λ r. k ∷ r) (scan-same n (suc k) w v (λ l s. sym (h .rest l (λ d. omega arith))) ∙ sym (scan-none n k v (ap (bit v) e ∙ h .gone)))
+          ∙ ap (λ x. x ∷ scan (suc n) k v) e
+      | inr d ↦
+          let l : k < i = omega arith in
+          let z = h .lowest k l in
+          scan-none n k w z ∙ scan-lost n (suc k) w i v h (omega arith) (omega arith) ∙ ap (λ r. i ∷ r) (sym (scan-none n k v (h .rest k d ∙ z)))
+    ]
 
 pub places-lost : (w i v : ℕ) → Lost w i v → places w ≡ i ∷ places v
 unfolding places

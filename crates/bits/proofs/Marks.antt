@@ -18,13 +18,13 @@ pub mark : (k a : ℕ) → k < 64 → bit (1 * 2 ^ k % 2 ^ 64) a ≡ same a k
 mark k a lk =
     ⊎-elim
     (λ (in64 : a < 64).
-      ⊎-elim
-      (λ (lt : a < k). omega (arith, bit-mod 64 (1 * 2 ^ k) a in64, bit-shl-low k 1 a lt))
-      (λ (ge : k ≤ a).
-        let e : k + (a - k) ≡ a = omega arith in
-        let h : bit (1 * 2 ^ k) a ≡ bit 1 (a - k) = rw e at (bit-shl-high k 1 (a - k)) in
-        omega (arith, bit-mod 64 (1 * 2 ^ k) a in64, one-bit (a - k)))
-      (cases-lt a k))
+    ⊎-elim
+    (λ (lt : a < k). omega (arith, bit-mod 64 (1 * 2 ^ k) a in64, bit-shl-low k 1 a lt))
+    (λ (ge : k ≤ a).
+    let e : k + (a - k) ≡ a = omega arith in
+    let h : bit (1 * 2 ^ k) a ≡ bit 1 (a - k) = rw e at (bit-shl-high k 1 (a - k)) in
+    omega (arith, bit-mod 64 (1 * 2 ^ k) a in64, one-bit (a - k)))
+    (cases-lt a k))
     (λ (past : 64 ≤ a). omega (arith, bit-past 64 (1 * 2 ^ k % 2 ^ 64) a (omega arith) past))
     (cases-lt a 64)
 

@@ -17,8 +17,8 @@ total-change f g zero i lt e = absurd (omega arith)
 total-change f g (suc n) i lt e =
     ⊎-elim
     (λ (here : n ≡ i).
-      let r : total g n ≡ total f n = total-same g f n (λ a l. e a (omega arith)) in
-      omega (arith, ap f here, ap g here))
+    let r : total g n ≡ total f n = total-same g f n (λ a l. e a (omega arith)) in
+    omega (arith, ap f here, ap g here))
     (λ (there : n ≢ i). omega (arith, e n there, total-change f g n i (omega arith) e))
     (cases-eq n i)
 
@@ -73,11 +73,11 @@ pub totals-two : (f : ℕ → ℕ → ℕ) (n m i j a b : ℕ) → i < n → j <
 totals-two f n m i j a b li lj la lb ne =
     ⊎-elim
     (λ (x : a ≡ i).
-      let y : b ≢ j = λ y. ne (x, y) in
-      let two = total-two (f i) m j b lj lb (λ e. y (sym e)) in
-      let up = total-at (λ a. total (f a) m) n i li in
-      omega (arith, ap (λ z. f z b) x))
+    let y : b ≢ j = λ y. ne (x, y) in
+    let two = total-two (f i) m j b lj lb (λ e. y (sym e)) in
+    let up = total-at (λ a. total (f a) m) n i li in
+    omega (arith, ap (λ z. f z b) x))
     (λ (x : a ≢ i).
-      let two = total-two (λ a. total (f a) m) n i a li la (λ e. x (sym e)) in
-      omega (arith, total-at (f i) m j lj, total-at (f a) m b lb))
+    let two = total-two (λ a. total (f a) m) n i a li la (λ e. x (sym e)) in
+    omega (arith, total-at (f i) m j lj, total-at (f a) m b lb))
     (cases-eq a i)

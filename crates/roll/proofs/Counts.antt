@@ -41,19 +41,20 @@ module _ (word : ℕ → ℕ → ℕ) (fits : (i j : ℕ) → word i j < 2 ^ 64)
   block-one i j li lj =
       ⊎-elim
       (λ (p : 0 < word i j).
-        let r = block-any i j li lj p in
-        let e : any (members word) (4096 * i + 64 * j) 64 ≡ true = any-from (members word) (4096 * i + 64 * j) 64 (r .0) (r .1 .0) (r .1 .1) in
-        rw e (omega arith))
+      let r = block-any i j li lj p in
+      let e : any (members word) (4096 * i + 64 * j) 64 ≡ true = any-from (members word) (4096 * i + 64 * j) 64 (r .0) (r .1 .0) (r .1 .1) in
+      rw e (omega arith))
       (λ (z : word i j ≤ 0).
-        ⊎-elim
-        (λ (h : 0 < one (any (members word) (4096 * i + 64 * j) 64)). absurd (some-there i j li lj (there _ h) z))
-        (λ (h : one (any (members word) (4096 * i + 64 * j) 64) ≤ 0). omega arith)
-        (cases-lt 0 (one (any (members word) (4096 * i + 64 * j) 64))))
+      ⊎-elim
+      (λ (h : 0 < one (any (members word) (4096 * i + 64 * j) 64)). absurd (some-there i j li lj (there _ h) z))
+      (λ (h : one (any (members word) (4096 * i + 64 * j) 64) ≤ 0). omega arith)
+      (cases-lt 0 (one (any (members word) (4096 * i + 64 * j) 64))))
       (cases-lt 0 (word i j))
     where
       there : (b : Bool) → 0 < one b → b ≡ true
       there true h = refl
       there false h = absurd (omega arith)
+
       some-there : (i j : ℕ) → i < 64 → j < 64 → any (members word) (4096 * i + 64 * j) 64 ≡ true → word i j ≤ 0 → ⊥
       some-there i j li lj e z =
           let r = any-true (members word) (4096 * i + 64 * j) 64 e in
@@ -69,32 +70,33 @@ module _ (word : ℕ → ℕ → ℕ) (fits : (i j : ℕ) → word i j < 2 ^ 64)
   group-one i li =
       ⊎-elim
       (λ (p : 0 < total (λ j. some (word i j)) 64).
-        let t = total-some (λ j. some (word i j)) 64 p in
-        let j = t .0 in
-        let lj : j < 64 = t .1 in
-        let w : 0 < word i j = omega (arith, t .2) in
-        let r = block-any i j li lj w in
-        let lk : r .0 < 64 = r .1 .0 in
-        let e : 4096 * i + 64 * j + r .0 ≡ 4096 * i + (64 * j + r .0) = omega arith in
-        let y : any (members word) (4096 * i) 4096 ≡ true = any-from (members word) (4096 * i) 4096 (64 * j + r .0) (omega arith) (rw e at (r .1 .1)) in
-        rw y (omega arith))
+      let t = total-some (λ j. some (word i j)) 64 p in
+      let j = t .0 in
+      let lj : j < 64 = t .1 in
+      let w : 0 < word i j = omega (arith, t .2) in
+      let r = block-any i j li lj w in
+      let lk : r .0 < 64 = r .1 .0 in
+      let e : 4096 * i + 64 * j + r .0 ≡ 4096 * i + (64 * j + r .0) = omega arith in
+      let y : any (members word) (4096 * i) 4096 ≡ true = any-from (members word) (4096 * i) 4096 (64 * j + r .0) (omega arith) (rw e at (r .1 .1)) in
+      rw y (omega arith))
       (λ (z : total (λ j. some (word i j)) 64 ≤ 0).
-        let y : any (members word) (4096 * i) 4096 ≡ false = any-none (members word) (4096 * i) 4096 (λ k lk. none i k li lk z) in
-        rw y (omega arith))
+      let y : any (members word) (4096 * i) 4096 ≡ false = any-none (members word) (4096 * i) 4096 (λ k lk. none i k li lk z) in
+      rw y (omega arith))
       (cases-lt 0 (total (λ j. some (word i j)) 64))
     where
       bool-false : (b : Bool) → (b ≡ true → ⊥) → b ≡ false
       bool-false true h = absurd (h refl)
       bool-false false h = refl
+
       none : (i k : ℕ) → i < 64 → k < 4096 → total (λ j. some (word i j)) 64 ≤ 0 → members word (4096 * i + k) ≡ false
       none i k li lk z =
           bool-false _
           (λ h.
-            let n = 4096 * i + k in
-            let a : n / 4096 ≡ i = omega arith in
-            let b : n % 4096 / 64 ≡ k / 64 = omega arith in
-            let w : 0 < word i (k / 64) = rw (a, b) at (member-word word n h) in
-            omega (arith, total-at (λ j. some (word i j)) 64 (k / 64) (omega arith)))
+          let n = 4096 * i + k in
+          let a : n / 4096 ≡ i = omega arith in
+          let b : n % 4096 / 64 ≡ k / 64 = omega arith in
+          let w : 0 < word i (k / 64) = rw (a, b) at (member-word word n h) in
+          omega (arith, total-at (λ j. some (word i j)) 64 (k / 64) (omega arith)))
 
   -- the counts by words
   pub groups-words : groups (members word) ≡ total (λ i. some (total (λ j. some (word i j)) 64)) 64

@@ -13,7 +13,7 @@ returns-then-n-lt64 c =
     record {
       value = e;
       below = λ k h. ap (λ v. bit v k) e ∙ cut-low n w k h;
-      above = λ k h. ap (λ v. bit v k) e ∙ cut-high n w k h
+      above = λ k h. ap (λ v. bit v k) e ∙ cut-high n w k h;
     }
 
 pub returns-else-n-lt64 : need.returns-else-n-lt64
@@ -24,5 +24,5 @@ returns-else-n-lt64 c =
     record {
       value = e;
       below = λ k h. ap (λ v. bit v k) e ∙ cut-low n w k h;
-      above = λ k h. ap (λ v. bit v k) e ∙ cut-high n w k h
+      above = λ k h. ap (λ v. bit v k) e ∙ cut-high n w k h;
     }

@@ -1,0 +1,4 @@
+//! Blocks, and a pool of them over a slice that the caller lends.
+
+pub mod block;
+pub mod level;
