@@ -1,0 +1,10 @@
+pub mod Held
+pub mod Facts
+pub mod Grow
+pub mod Entry
+pub mod Fill
+pub mod Clear
+pub mod Whole
+pub mod Start
+pub mod Room
+pub mod Slots
