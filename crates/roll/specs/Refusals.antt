@@ -13,7 +13,7 @@ number BlocksFull = 4
 number NoElement = 5
 
 abbrev pub phrase : Refusal → List ℕ
-phrase OutOfRange = codes "outside the 262144 cells"
+phrase OutOfRange = codes "index or start out of range"
 phrase OffBoundary = codes "start is no multiple of 64"
 phrase GroupsFull = codes "every slot for groups is in use"
 phrase BlocksFull = codes "every slot for blocks is in use"

@@ -36,7 +36,7 @@ impl Refusal {
         ensures { λ r. ⌜ now r ≡ phrase (now (self .entry)) ⌝ }
     {
         match *self {
-            Refusal::OutOfRange => "outside the 262144 cells",
+            Refusal::OutOfRange => "index or start out of range",
             Refusal::OffBoundary => "start is no multiple of 64",
             Refusal::GroupsFull => "every slot for groups is in use",
             Refusal::BlocksFull => "every slot for blocks is in use",

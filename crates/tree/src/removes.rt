@@ -51,7 +51,8 @@ impl<'a> Tree<'a> {
         ensures lent { λ _. ⌜ Lent (now (self .entry)) (now (self .exit)) ⌝ }
     {
         self.drop_block(i, j);
-        if self.middle(i) == 0 {
+        let left = self.middle(i);
+        if left == 0 {
             self.drop_group(i);
         }
     }

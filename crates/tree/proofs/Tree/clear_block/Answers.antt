@@ -6,9 +6,9 @@ use Rattle.tree.proofs.Clear.{under}
 use Rattle.tree.proofs.Whole.{thinned, emptied}
 use Rattle.tree.proofs.Tree.clear_block.Needs as need
 
-pub returns-then-middle-eq0 : need.returns-then-middle-eq0
-returns-then-middle-eq0 c =
-    let z : node (c .drop-block .last .self) (c .args .i) .mask ≡ 0 = omega (arith, c .middle .ensures) in
+pub returns-then-left-eq0 : need.returns-then-left-eq0
+returns-then-left-eq0 c =
+    let z : node (c .drop-block .last .self) (c .args .i) .mask ≡ 0 = omega (arith, c .middle-left .ensures) in
     let a = c .drop-block .ensures .lent in
     let b = c .drop-group .ensures .lent in
     record {
@@ -16,13 +16,13 @@ returns-then-middle-eq0 c =
       lent = record { upper = b .upper ∙ a .upper; lower = b .lower ∙ a .lower };
     }
 
-pub returns-else-middle-eq0 : need.returns-else-middle-eq0
-returns-else-middle-eq0 c =
+pub returns-else-left-eq0 : need.returns-else-left-eq0
+returns-else-left-eq0 c =
     let s = c .args .self .now in
     let i = c .args .i in
     let j = c .args .j in
-    let fits : c .middle .result < 2 ^ 64 = omega (arith, c .middle .ok) in
+    let fits : c .middle-left .result < 2 ^ 64 = omega (arith, c .middle-left .ok) in
     record {
-      put = thinned s (c .drop-block .last .self) i j (c .pre .sound .1) (c .drop-block .ensures .cleared) (under s (c .pre .sound .0) i j (c .pre .has)) (omega (arith, c .middle .ensures)) (omega (arith, c .middle .ensures));
+      put = thinned s (c .drop-block .last .self) i j (c .pre .sound .1) (c .drop-block .ensures .cleared) (under s (c .pre .sound .0) i j (c .pre .has)) (omega (arith, c .middle-left .ensures)) (omega (arith, c .middle-left .ensures));
       lent = c .drop-block .ensures .lent;
     }
