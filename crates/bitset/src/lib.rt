@@ -16,8 +16,8 @@ use bits::bit_utils::get_bit;
 use bits::bit_utils::set_bit;
 use bits::level_indices;
 use pool::block::Block;
-use pool::block::DataBlock;
 use pool::block::Level1Block;
+use pool::block::WordBlock;
 use pool::level::Level;
 use roll::Refusal;
 use tree::Tree;
@@ -45,9 +45,8 @@ impl<'a> BitSet<'a> {
         ensures pools { λ r. ⌜ r .tree .level1 ≡ level1 .entry ⌝ ∗ ⌜ r .tree .«data» ≡ «data» .entry ⌝ }
         ensures sound { λ r. ⌜ Sound r ⌝ }
     {
-        BitSet {
-            tree: Tree::new(level1, data),
-        }
+        let tree = Tree::new(level1, data);
+        BitSet { tree }
     }
 
     /// The set gains the index.
@@ -132,5 +131,12 @@ impl<'a> BitSet<'a> {
         ensures { λ _. ⌜ Stands (now (self .entry) .tree) ⌝ }
     {
         self.tree.stands();
+    }
+
+    /// The levels, to read.
+    pub fn tree(&self) -> &Tree<'a>
+        ensures { λ r. ⌜ now r ≡ now (self .entry) .tree ⌝ }
+    {
+        &self.tree
     }
 }

@@ -1,13 +1,16 @@
 //! Worked cases, run.
 
 #[cfg(test)]
+mod operands_tests;
+
+#[cfg(test)]
 mod tests {
     use bits::bit_queue::zero_first_n;
     use bits::level_indices;
     use bitset::BitSet;
     use pool::block::Block;
-    use pool::block::DataBlock;
     use pool::block::Level1Block;
+    use pool::block::WordBlock;
     use pool::level::Level;
     use pool::level::check_blocks;
     use roll::Refusal;

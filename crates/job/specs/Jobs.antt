@@ -1,16 +1,11 @@
 -- What a step of a shift asks of the set, and what is reported of it.
 use mathlib.Core.Path.{_≡_}
-use mathlib.Core.Bool.{Bool, not}
-use Prim.Native.Nat.{ℕ, _≤_, _<_}
-use Rattle.std.specs.declared.option.Option.{Option}
-use Rattle.std.specs.declared.option.Option.the-variants.{Some, None}
-use Rattle.bits.specs.Indices.{capacity}
 use Rattle.roll.specs.Refusals.{number}
 use Rattle.roll.specs.Roll.{Call, Insert, InsertBlock, Remove, Contains, Answer, Done, Told, Refused, answer, after}
 use Rattle.bitset.specs.declared.BitSet.{BitSet}
 use Rattle.bitset.specs.Sets.{rollOf}
 use Rattle.shift.specs.declared.Step.{Step}
-use Rattle.shift.specs.declared.Step.the-variants.{Nothing, Pools, Machine, Mark, Block, Unmark, Ask}
+use Rattle.shift.specs.declared.Step.the-variants.{Nothing, Pools, Machine, Mark, Block, Unmark, Ask, Cells, Shared, Lacking}
 use Rattle.job.specs.declared.Report.{Report}
 use Rattle.job.specs.declared.Report.the-variants.{Idle, Accepted, Answered, Denied}
 
@@ -35,8 +30,6 @@ Acts (Mark n) r s s′ = Calls (Insert n) r s s′
 Acts (Block b w) r s s′ = Calls (InsertBlock b w) r s s′
 Acts (Unmark n) r s s′ = Calls (Remove n) r s s′
 Acts (Ask n) r s s′ = Calls (Contains n) r s s′
-
--- the least cell from a place on that is tilled, or is not, as is asked; or that there is none
-abbrev pub Least : BitSet → Bool → ℕ → Option ℕ → Type 0
-Least s tilled from None = (n : ℕ) → from ≤ n → n < capacity → rollOf s .has n ≡ not tilled
-Least s tilled from (Some n) = (from ≤ n) × (n < capacity) × (rollOf s .has n ≡ tilled) × ((m : ℕ) → from ≤ m → m < n → rollOf s .has m ≡ not tilled)
+Acts (Cells n) r s s′ = (r ≡ Idle) × (s′ ≡ s)
+Acts (Shared n) r s s′ = (r ≡ Idle) × (s′ ≡ s)
+Acts (Lacking n) r s s′ = (r ≡ Idle) × (s′ ≡ s)

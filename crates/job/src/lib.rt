@@ -1,9 +1,8 @@
 //! The steps of a shift, done on the coverage set.
 ghost use Rattle.bitset.specs.Sets.{Sound};
-ghost use Rattle.job.specs.Jobs.{Acts, Least, said};
+ghost use Rattle.job.specs.Jobs.{Acts, said};
 ghost use Rattle.roll.specs.Answers.{outcome};
 ghost use mathlib.Core.Path.{_≡_};
-use bits::MAX_CAPACITY;
 use bitset::BitSet;
 use roll::Refusal;
 use shift::Step;
@@ -45,19 +44,6 @@ pub fn act(set: &mut BitSet, step: Step) -> Report
             Err(e) => Report::Denied(e),
         },
         Step::Ask(n) => Report::Answered(set.contains(n as usize)),
-        Step::Nothing | Step::Pools(_, _) | Step::Machine(_) => Report::Idle,
+        _ => Report::Idle,
     }
-}
-
-/// The least cell from a place on that is tilled, or that is not.
-pub fn next_cell(set: &BitSet, from: usize, tilled: bool) -> Option<usize>
-    requires { ⌜ Sound (now set) ⌝ }
-    ensures { λ r. ⌜ Least (now (set .entry)) tilled from r ⌝ }
-{
-    for n in from..MAX_CAPACITY {
-        if set.contains(n) == tilled {
-            return Some(n);
-        }
-    }
-    None
 }

@@ -24,7 +24,7 @@ pub trait IBlock: Copy {
 }
 
 /// A data block: one word, a bit a cell.
-pub impl IBlock for u64 as DataBlock {
+pub impl IBlock for u64 as WordBlock {
     ghost kind = { dataKind };
 
     fn empty() -> u64 {

@@ -22,7 +22,8 @@ use Rattle.shift.proofs.Cuts.{one-cut}
 abbrev which : List ℕ → Word
 which l =
     cond (eqb (getD l 0 0) 112) word.Pools (cond (eqb (getD l 0 0) 98) word.Block (cond (eqb (getD l 0 0) 117) word.Unmark
-    (cond (eqb (getD l 0 0) 97) word.Ask (cond (eqb (getD l 2 0) 99) word.Machine word.Mark))))
+    (cond (eqb (getD l 0 0) 97) word.Ask (cond (eqb (getD l 0 0) 99) word.Cells (cond (eqb (getD l 0 0) 115) word.Shared
+    (cond (eqb (getD l 0 0) 108) word.Lacking (cond (eqb (getD l 2 0) 99) word.Machine word.Mark)))))))
 
 which-text : (w : Word) → which (spelling w) ≡ w
 which-text word.Pools = refl
@@ -31,6 +32,9 @@ which-text word.Mark = refl
 which-text word.Block = refl
 which-text word.Unmark = refl
 which-text word.Ask = refl
+which-text word.Cells = refl
+which-text word.Shared = refl
+which-text word.Lacking = refl
 
 pub bare-text : (w : Word) → Bare (spelling w)
 bare-text word.Pools = search needs
@@ -39,6 +43,9 @@ bare-text word.Mark = search needs
 bare-text word.Block = search needs
 bare-text word.Unmark = search needs
 bare-text word.Ask = search needs
+bare-text word.Cells = search needs
+bare-text word.Shared = search needs
+bare-text word.Lacking = search needs
 
 -- a keyword begins with a small letter
 letter : (w : Word) (list : List ℕ) → 97 ≤ getD (spelling w ++ list) 0 0
@@ -48,6 +55,9 @@ letter word.Mark list = omega arith
 letter word.Block list = omega arith
 letter word.Unmark list = omega arith
 letter word.Ask list = omega arith
+letter word.Cells list = omega arith
+letter word.Shared list = omega arith
+letter word.Lacking list = omega arith
 
 idle-first : (line : List ℕ) → Idle line → getD line 0 0 ≤ 35
 idle-first line h = ⊎-elim (λ e. rw e (omega arith)) (λ n. rw (n .1) (omega arith)) h

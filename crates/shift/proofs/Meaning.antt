@@ -12,7 +12,7 @@ use Rattle.shift.specs.Lines.{Idle, Spelled, Says, Unknown, Fault}
 use Rattle.shift.specs.Words.{spelling, due}
 use Rattle.shift.specs.declared.Expected.{Expected}
 use Rattle.shift.specs.declared.Step.{Step}
-use Rattle.shift.specs.declared.Step.the-variants.{Nothing, Pools, Machine, Mark, Block, Unmark, Ask}
+use Rattle.shift.specs.declared.Step.the-variants.{Nothing, Pools, Machine, Mark, Block, Unmark, Ask, Cells, Shared, Lacking}
 use Rattle.shift.specs.declared.words.Word.{Word}
 use Rattle.shift.specs.declared.words.Word.the-variants as word
 use Rattle.shift.proofs.Cuts.{one-begin}
@@ -27,6 +27,9 @@ made word.Mark ns = Mark (getD ns 0 0)
 made word.Block ns = Block (getD ns 0 0) (getD ns 1 0)
 made word.Unmark ns = Unmark (getD ns 0 0)
 made word.Ask ns = Ask (getD ns 0 0)
+made word.Cells ns = Cells (getD ns 0 0)
+made word.Shared ns = Shared (getD ns 0 0)
+made word.Lacking ns = Lacking (getD ns 0 0)
 
 -- a line that says a step is idle, or is a keyword and its numbers
 abbrev Seen : List ℕ → Step → Type 0
@@ -42,6 +45,9 @@ seen line (Mark n) h = inr (word.Mark, n ∷ [], refl, refl, h)
 seen line (Block p q) h = inr (word.Block, p ∷ (q ∷ []), refl, refl, h)
 seen line (Unmark n) h = inr (word.Unmark, n ∷ [], refl, refl, h)
 seen line (Ask n) h = inr (word.Ask, n ∷ [], refl, refl, h)
+seen line (Cells n) h = inr (word.Cells, n ∷ [], refl, refl, h)
+seen line (Shared n) h = inr (word.Shared, n ∷ [], refl, refl, h)
+seen line (Lacking n) h = inr (word.Lacking, n ∷ [], refl, refl, h)
 
 one-spelled : (line : List ℕ) (w v : Word) (ns ms : List ℕ) → length ns ≡ due w → length ms ≡ due v → Spelled (spelling w) ns line → Spelled (spelling v) ms line → made w ns ≡ made v ms
 one-spelled line w v ns ms l k p q =

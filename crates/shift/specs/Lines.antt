@@ -9,7 +9,7 @@ use Rattle.shift.specs.Words.{spelling, due}
 use Rattle.shift.specs.declared.Expected.{Expected}
 use Rattle.shift.specs.declared.Expected.the-variants.{Keyword, Number, TooLarge, End}
 use Rattle.shift.specs.declared.Step.{Step}
-use Rattle.shift.specs.declared.Step.the-variants.{Nothing, Pools, Machine, Mark, Block, Unmark, Ask}
+use Rattle.shift.specs.declared.Step.the-variants.{Nothing, Pools, Machine, Mark, Block, Unmark, Ask, Cells, Shared, Lacking}
 use Rattle.shift.specs.declared.words.Word.{Word}
 
 -- a line with nothing to do: an empty one, or a note
@@ -29,6 +29,9 @@ Says line (Mark n) = Spelled (codes "mark") (n ∷ []) line
 Says line (Block start cells) = Spelled (codes "block") (start ∷ cells ∷ []) line
 Says line (Unmark n) = Spelled (codes "unmark") (n ∷ []) line
 Says line (Ask n) = Spelled (codes "ask") (n ∷ []) line
+Says line (Cells n) = Spelled (codes "cells") (n ∷ []) line
+Says line (Shared n) = Spelled (codes "shared") (n ∷ []) line
+Says line (Lacking n) = Spelled (codes "lacking") (n ∷ []) line
 
 -- there is something to do, and the line's first field is no keyword
 abbrev pub Unknown : List ℕ → Type 0
@@ -44,7 +47,7 @@ Fault line e =
 
 -- what a user is told
 abbrev pub wording : Expected → List ℕ
-wording Keyword = codes "one of pools, machine, mark, block, unmark, ask"
+wording Keyword = codes "pools, machine, mark, block, unmark, ask, cells, shared or lacking"
 wording Number = codes "one space and a number of 1 to 20 decimal digits"
 wording TooLarge = codes "a number of at most 18446744073709551615"
 wording End = codes "nothing more on the line"

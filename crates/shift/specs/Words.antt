@@ -3,7 +3,7 @@ use mathlib.Core.List.{List}
 use Prim.Native.Nat.{ℕ}
 use lib.Chars.{codes}
 use Rattle.shift.specs.declared.words.Word.{Word}
-use Rattle.shift.specs.declared.words.Word.the-variants.{Pools, Machine, Mark, Block, Unmark, Ask}
+use Rattle.shift.specs.declared.words.Word.the-variants.{Pools, Machine, Mark, Block, Unmark, Ask, Cells, Shared, Lacking}
 
 -- the bytes of a keyword
 abbrev pub spelling : Word → List ℕ
@@ -13,6 +13,9 @@ spelling Mark = codes "mark"
 spelling Block = codes "block"
 spelling Unmark = codes "unmark"
 spelling Ask = codes "ask"
+spelling Cells = codes "cells"
+spelling Shared = codes "shared"
+spelling Lacking = codes "lacking"
 
 -- how many numbers follow it
 abbrev pub due : Word → ℕ
@@ -22,3 +25,6 @@ due Mark = 1
 due Block = 2
 due Unmark = 1
 due Ask = 1
+due Cells = 1
+due Shared = 1
+due Lacking = 1

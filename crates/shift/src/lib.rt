@@ -38,6 +38,12 @@ pub enum Step {
     Unmark(u64),
     /// Is this cell tilled?
     Ask(u64),
+    /// The cells of the map, from this one on.
+    Cells(u64),
+    /// The cells that both machines tilled, from this one on.
+    Shared(u64),
+    /// The cells that the other machine tilled and the present one did not, from this one on.
+    Lacking(u64),
 }
 
 /// What was expected where a line goes wrong.
@@ -59,7 +65,8 @@ impl Expected {
         ensures { λ r. ⌜ now r ≡ wording (now (self .entry)) ⌝ }
     {
         match self {
-            Expected::Keyword => "one of pools, machine, mark, block, unmark, ask",
+            Expected::Keyword =>
+                "pools, machine, mark, block, unmark, ask, cells, shared or lacking",
             Expected::Number => "one space and a number of 1 to 20 decimal digits",
             Expected::TooLarge => "a number of at most 18446744073709551615",
             Expected::End => "nothing more on the line",
@@ -84,6 +91,9 @@ fn step_of(word: Word, list: &[u8]) -> Result<Step, Expected>
         }
         Word::Unmark => Ok(Step::Unmark(one_number(list)?)),
         Word::Ask => Ok(Step::Ask(one_number(list)?)),
+        Word::Cells => Ok(Step::Cells(one_number(list)?)),
+        Word::Shared => Ok(Step::Shared(one_number(list)?)),
+        Word::Lacking => Ok(Step::Lacking(one_number(list)?)),
     }
 }
 

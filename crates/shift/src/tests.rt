@@ -15,7 +15,10 @@ fn steps() -> Result<(), Fail> {
     check_eq(read_step(b"mark 0"), Ok(Step::Mark(0)))?;
     check_eq(read_step(b"block 64 10"), Ok(Step::Block(64, 10)))?;
     check_eq(read_step(b"unmark 262143"), Ok(Step::Unmark(262143)))?;
-    check_eq(read_step(b"ask 007"), Ok(Step::Ask(7)))
+    check_eq(read_step(b"ask 007"), Ok(Step::Ask(7)))?;
+    check_eq(read_step(b"cells 5"), Ok(Step::Cells(5)))?;
+    check_eq(read_step(b"shared 0"), Ok(Step::Shared(0)))?;
+    check_eq(read_step(b"lacking 9"), Ok(Step::Lacking(9)))
 }
 
 #[test]

@@ -11,6 +11,9 @@ pub enum Word {
     Block,
     Unmark,
     Ask,
+    Cells,
+    Shared,
+    Lacking,
 }
 
 // The keyword that a field spells.
@@ -24,6 +27,9 @@ pub fn named(field: &[u8]) -> Option<Word>
         b"block" => Some(Word::Block),
         b"unmark" => Some(Word::Unmark),
         b"ask" => Some(Word::Ask),
+        b"cells" => Some(Word::Cells),
+        b"shared" => Some(Word::Shared),
+        b"lacking" => Some(Word::Lacking),
         _ => None,
     }
 }

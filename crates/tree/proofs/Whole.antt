@@ -1,3 +1,4 @@
+-- Whole changes of a word, made of the steps.
 use mathlib.Core.Path.{_≡_, refl, sym, ap, _∙_}
 use mathlib.Core.Logic.{_≢_, _⊎_, inl, inr, ⊎-elim}
 use Prim.Native.Nat.{ℕ, zero, suc, _+_, _-_, _<_, _≤_, _^_}
@@ -150,17 +151,3 @@ module _ (s s′ : Tree) (i j : ℕ) (t : Tight s) (c : Cleared s s′ i j) wher
         room1 = d .room1 ∙ c .room1;
         room2 = simp (d .data-same) (c .room2);
       }
-
--- a word that is 0 stays
-pub untouched : (s : Tree) (i j v : ℕ) → Sound s → word s i j ≡ v → Put s s i j v
-untouched s i j v t e = record { sound = t; here = e; others = λ a b ne. refl; room1 = refl; room2 = refl }
-
--- where a word is not 0, its group and block are there already
-pub fits-group : (s : Tree) → Sound s → (i : ℕ) → 0 < slot1 s i → groupsWith s i < length (now (s .level1 .blocks))
-fits-group s t i p = omega (arith, t .1 .groups-full i, tally1 s (t .0), used-groups s (t .1), t .0 .holds1 .1 .tallied, t .0 .holds1 .1 .room)
-
-pub fits-block : (s : Tree) → Sound s → (i j : ℕ) → 0 < word s i j → blocksWith s i j < length (now (s .«data» .blocks))
-fits-block s t i j p = omega (arith, t .1 .words-full i j, tally2 s (t .0), used-blocks s (t .1), t .0 .holds2 .1 .tallied, t .0 .holds2 .1 .room)
-
-pub and-some : (a b : ℕ) → 0 < bitAnd a b → 0 < a
-and-some a b p = omega (arith, and-le-l a b)

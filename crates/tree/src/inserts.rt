@@ -12,8 +12,8 @@ ghost use Rattle.tree.specs.Steps.{Grown, Filled, Put, Lent, groupsWith, room}
 use super::Tree;
 use bits::bit_utils::set_bit;
 use pool::block::Block;
-use pool::block::DataBlock;
 use pool::block::Level1Block;
+use pool::block::WordBlock;
 use pool::level::Level;
 use roll::Refusal;
 

@@ -6,8 +6,8 @@ ghost use Rattle.pool.specs.Levels.{Fresh};
 ghost use Rattle.tree.specs.Trees.{word, groupCount, blockCount, Sound};
 ghost use Rattle.tree.specs.Slots.{Stands};
 use pool::block::Block;
-use pool::block::DataBlock;
 use pool::block::Level1Block;
+use pool::block::WordBlock;
 use pool::level::Level;
 
 mod inserts;
@@ -59,7 +59,7 @@ impl<'a> Tree<'a> {
 
     /// Does nothing: its contract says what becomes of each slot of a sound tree.
     pub fn stands(&self)
-        requires { ⌜ Sound (now self) ⌝ }
+        requires sound { ⌜ Sound (now self) ⌝ }
         ensures { λ _. ⌜ Stands (now (self .entry)) ⌝ }
     {}
 }

@@ -7,8 +7,8 @@ ghost use Rattle.tree.specs.Steps.{Cleared, Shrunk, Put, Lent};
 use super::Tree;
 use bits::bit_utils::clear_bit;
 use pool::block::Block;
-use pool::block::DataBlock;
 use pool::block::Level1Block;
+use pool::block::WordBlock;
 use pool::level::Level;
 
 impl<'a> Tree<'a> {

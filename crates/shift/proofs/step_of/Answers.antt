@@ -27,3 +27,15 @@ returns-in-Continue-one-number-3 c =
 pub returns-in-Continue-one-number-4 : need.returns-in-Continue-one-number-4
 returns-in-Continue-one-number-4 c =
     (c .args .list .now, ap (λ w. spelling w ++ c .args .list .now) (c .in-Ask .is), c .in-Continue-one-number-4 .ensures tt)
+
+pub returns-in-Continue-one-number-5 : need.returns-in-Continue-one-number-5
+returns-in-Continue-one-number-5 c =
+    (c .args .list .now, ap (λ w. spelling w ++ c .args .list .now) (c .in-Cells .is), c .in-Continue-one-number-5 .ensures tt)
+
+pub returns-in-Continue-one-number-6 : need.returns-in-Continue-one-number-6
+returns-in-Continue-one-number-6 c =
+    (c .args .list .now, ap (λ w. spelling w ++ c .args .list .now) (c .in-Shared .is), c .in-Continue-one-number-6 .ensures tt)
+
+pub returns-in-Continue-one-number-7 : need.returns-in-Continue-one-number-7
+returns-in-Continue-one-number-7 c =
+    (c .args .list .now, ap (λ w. spelling w ++ c .args .list .now) (c .in-Lacking .is), c .in-Continue-one-number-7 .ensures tt)

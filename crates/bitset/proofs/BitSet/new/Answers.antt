@@ -11,7 +11,7 @@ use Rattle.bitset.proofs.BitSet.new.Needs as need
 
 pub returns : need.returns
 returns c =
-    let t = c .new .ensures in
+    let t = c .new-tree .ensures in
     record {
       roll = same-roll _ (λ _. false) _ _ _ _ (λ m. no-bit m _ (t .empty _ _)) (ap slotsOf (t .pools .0)) (ap slotsOf (t .pools .1));
       pools = t .pools;

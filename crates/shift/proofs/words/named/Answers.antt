@@ -20,3 +20,12 @@ returns-in-117 c = search (needs, text-from-reads)
 
 pub returns-in-109 : need.returns-in-109
 returns-in-109 c = search (needs, text-from-reads)
+
+pub returns-in-99 : need.returns-in-99
+returns-in-99 c = search (needs, text-from-reads)
+
+pub returns-in-115 : need.returns-in-115
+returns-in-115 c = search (needs, text-from-reads)
+
+pub returns-in-108 : need.returns-in-108
+returns-in-108 c = search (needs, text-from-reads)
