@@ -37,6 +37,12 @@ use walks::index_iter::IndexIter;
 // The largest pool that a shift may ask for: a slot for each of the 64 * 64 blocks.
 const MOST_SLOTS: u64 = 4096;
 
+// What the slices hold before they are lent.
+const EMPTY: Block = Block {
+    mask: 0,
+    slots: [0; 64],
+};
+
 const HELP: &str =
     "dispatch: runs a shift of two snow groomers on their coverage maps and tells each step
 
@@ -154,15 +160,9 @@ fn tell(rt: &LibcRuntime, text: &str) -> Result<(), AnyError> {
         rt,
         "line {line}: two machines' maps, each with slots for groups {p}, for blocks {q}"
     )?;
-    let mut blocks_a = vec![in heap; Block {
-        mask: 0,
-        slots: [0; 64]
-    }; p + 1]?;
+    let mut blocks_a = vec![in heap; EMPTY; p + 1]?;
     let mut words_a = vec![in heap; 0u64; q + 1]?;
-    let mut blocks_b = vec![in heap; Block {
-        mask: 0,
-        slots: [0; 64]
-    }; p + 1]?;
+    let mut blocks_b = vec![in heap; EMPTY; p + 1]?;
     let mut words_b = vec![in heap; 0u64; q + 1]?;
     let mut a = new_set(blocks_a.as_mut_slice(), words_a.as_mut_slice());
     let mut b = new_set(blocks_b.as_mut_slice(), words_b.as_mut_slice());

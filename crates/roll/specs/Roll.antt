@@ -45,7 +45,7 @@ made M Used m = M m
 abbrev pub fitting : ℕ → ℕ → (ℕ → Bool) → Answer
 fitting p q M = cond (leb (groups M) p) (cond (leb (blocks M) q) Done (Refused 4)) (Refused 3)
 
--- the last start that a block insert takes is one block before the last
+-- a block insert takes starts below this one, 262,080: every block but the last
 abbrev pub startsEnd : ℕ
 startsEnd = capacity - blockSize
 

@@ -21,32 +21,26 @@ use std::error::AnyError;
 use std::io;
 use view::View;
 
+// What the slices hold before they are lent.
+const EMPTY: Block = Block {
+    mask: 0,
+    slots: [0; 64],
+};
+
 // The four sets of a family, and the walks over them: how many answers differ.
 fn family(heap: Global, entries: &[Entry]) -> Result<usize, AnyError> {
-    let mut l0 = vec![in heap; Block {
-        mask: 0,
-        slots: [0; 64]
-    }; 65]?;
-    let mut l1 = vec![in heap; Block {
-        mask: 0,
-        slots: [0; 64]
-    }; 65]?;
-    let mut l2 = vec![in heap; Block {
-        mask: 0,
-        slots: [0; 64]
-    }; 65]?;
-    let mut l3 = vec![in heap; Block {
-        mask: 0,
-        slots: [0; 64]
-    }; 65]?;
-    let mut w0 = vec![in heap; 0u64; 129]?;
-    let mut w1 = vec![in heap; 0u64; 129]?;
-    let mut w2 = vec![in heap; 0u64; 129]?;
-    let mut w3 = vec![in heap; 0u64; 129]?;
-    let a = made(l0.as_mut_slice(), w0.as_mut_slice(), entries, 0);
-    let b = made(l1.as_mut_slice(), w1.as_mut_slice(), entries, 1);
-    let c = made(l2.as_mut_slice(), w2.as_mut_slice(), entries, 2);
-    let d = made(l3.as_mut_slice(), w3.as_mut_slice(), entries, 3);
+    let mut blocks0 = vec![in heap; EMPTY; 65]?;
+    let mut blocks1 = vec![in heap; EMPTY; 65]?;
+    let mut blocks2 = vec![in heap; EMPTY; 65]?;
+    let mut blocks3 = vec![in heap; EMPTY; 65]?;
+    let mut words0 = vec![in heap; 0u64; 129]?;
+    let mut words1 = vec![in heap; 0u64; 129]?;
+    let mut words2 = vec![in heap; 0u64; 129]?;
+    let mut words3 = vec![in heap; 0u64; 129]?;
+    let a = made(blocks0.as_mut_slice(), words0.as_mut_slice(), entries, 0);
+    let b = made(blocks1.as_mut_slice(), words1.as_mut_slice(), entries, 1);
+    let c = made(blocks2.as_mut_slice(), words2.as_mut_slice(), entries, 2);
+    let d = made(blocks3.as_mut_slice(), words3.as_mut_slice(), entries, 3);
     Ok(walks(&a, &b, &c, &d, entries))
 }
 
