@@ -32,7 +32,7 @@ pub impl IBlock for u64 as WordBlock {
     }
 
     fn link(&self) -> u64 {
-        *self
+        *self // the whole word
     }
 
     fn set_link(&mut self, link: u64) {
@@ -58,7 +58,7 @@ pub impl IBlock for Block as Level1Block {
     }
 
     fn link(&self) -> u64 {
-        self.mask
+        self.mask // the slot numbers stay
     }
 
     fn set_link(&mut self, link: u64) {
