@@ -78,7 +78,7 @@ fn add_line(out: &mut Vec<Entry>, text: &str) -> Option<()> {
 }
 
 /// The entries of a text.
-pub fn all_entries(heap: Global, text: &str) -> Result<Vec<Entry>, AnyError> {
+pub(super) fn all_entries(heap: Global, text: &str) -> Result<Vec<Entry>, AnyError> {
     let mut out = Vec::new(heap);
     for s in text.lines() {
         if add_line(&mut out, s).is_none() {

@@ -319,7 +319,7 @@ fn large_shape(
 }
 
 /// A walk over the shape of that number: how many answers differ.
-pub fn over_shape(
+pub(super) fn over_shape(
     a: View,
     b: View,
     c: View,
