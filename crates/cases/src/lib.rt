@@ -1,4 +1,5 @@
 //! Worked cases, run.
+#![tactic(auto)]
 
 #[cfg(test)]
 mod operands_tests;

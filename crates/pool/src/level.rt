@@ -35,8 +35,8 @@ pub fn check_blocks<B>(blocks: &[B]) -> Result<(), Refusal>
 // Takes free block i off the chain: its link is cleared, and is the answer.
 fn pop_empty_block<B: IBlock>(blocks: &mut [B], i: usize) -> u64
     requires { i < length blocks.old }
-    ensures next { (d : B) → result ≡ kind.link (slice_index_or blocks.old i d) }
-    ensures cleared { (d : B) → blocks.new ≡ slice_set blocks.old i (kind.relink (slice_index_or blocks.old i d) 0) }
+    ensures next { (d : B) → result ≡ B.kind.link (slice_index_or blocks.old i d) }
+    ensures cleared { (d : B) → blocks.new ≡ slice_set blocks.old i (B.kind.relink (slice_index_or blocks.old i d) 0) }
 {
     let next = blocks[i].link();
     blocks[i].set_link(0);
@@ -46,7 +46,7 @@ fn pop_empty_block<B: IBlock>(blocks: &mut [B], i: usize) -> u64
 // Puts block i before the chain that begins at root.
 fn push_empty_block<B: IBlock>(blocks: &mut [B], i: usize, root: u64)
     requires { i < length blocks.old }
-    ensures { (d : B) → blocks.new ≡ slice_set blocks.old i (kind.relink (slice_index_or blocks.old i d) root) }
+    ensures { (d : B) → blocks.new ≡ slice_set blocks.old i (B.kind.relink (slice_index_or blocks.old i d) root) }
 {
     blocks[i].set_link(root);
 }
@@ -54,7 +54,7 @@ fn push_empty_block<B: IBlock>(blocks: &mut [B], i: usize, root: u64)
 // Empties block i, whatever it held.
 fn write_empty_block<B: IBlock>(blocks: &mut [B], i: usize)
     requires { i < length blocks.old }
-    ensures { blocks.new ≡ slice_set blocks.old i kind.blank }
+    ensures { blocks.new ≡ slice_set blocks.old i B.kind.blank }
 {
     blocks[i] = B::empty();
 }
@@ -63,8 +63,8 @@ impl<'a, B: IBlock> Level<'a, B> {
     /// A pool with no slot held. Slot 0 is emptied and nothing else is written.
     pub fn new(blocks: &'a mut [B]) -> Level<'a, B>
         requires { 0 < length blocks.old }
-        ensures written { result.blocks.now ≡ slice_set blocks.old 0 kind.blank }
-        ensures fresh { Fresh kind result }
+        ensures written { result.blocks.now ≡ slice_set blocks.old 0 B.kind.blank }
+        ensures fresh { Fresh B.kind result }
         ensures lent { result.blocks.ghost_name ≡ blocks.entry.ghost_name }
     {
         write_empty_block(blocks, 0);
@@ -78,10 +78,10 @@ impl<'a, B: IBlock> Level<'a, B> {
 
     /// Takes a slot, which is empty; nothing where every slot beside slot 0 is held.
     pub fn insert_empty_block(&mut self) -> Option<usize>
-        requires { Good kind self.old }
+        requires { Good B.kind self.old }
         ensures which { result ≡ picked self.old }
-        ensures taken { Taken kind self.old self.new result }
-        ensures good { Good kind self.new }
+        ensures taken { Taken B.kind self.old self.new result }
+        ensures good { Good B.kind self.new }
         ensures lent { self.new.blocks.ghost_name ≡ self.old.blocks.ghost_name }
     {
         if self.root_empty_block != NO_BLOCK {
@@ -101,10 +101,10 @@ impl<'a, B: IBlock> Level<'a, B> {
 
     /// Frees a held slot whose block is empty once its link is zeroed.
     pub fn remove_empty_block(&mut self, i: usize)
-        requires taken { (held : ℕ → Bool) × (Holds kind self.old held × (held i ≡ true)) }
-        requires clean { kind.relink (slice_index_or self.old.blocks.now i kind.blank) 0 ≡ kind.blank }
-        ensures given { Given kind self.old self.new i }
-        ensures good { Good kind self.new }
+        requires taken { (held : ℕ → Bool) × (Holds B.kind self.old held × (held i ≡ true)) }
+        requires clean { B.kind.relink (slice_index_or self.old.blocks.now i B.kind.blank) 0 ≡ B.kind.blank }
+        ensures given { Given B.kind self.old self.new i }
+        ensures good { Good B.kind self.new }
         ensures lent { self.new.blocks.ghost_name ≡ self.old.blocks.ghost_name }
     {
         let root = self.root_empty_block;
@@ -115,8 +115,8 @@ impl<'a, B: IBlock> Level<'a, B> {
 
     /// How many slots are held.
     pub fn held_blocks(&self) -> usize
-        requires { Good kind self.now }
-        ensures { (held : ℕ → Bool) → Holds kind self.now held → result ≡ tally held (length self.now.blocks.now) }
+        requires { Good B.kind self.now }
+        ensures { (held : ℕ → Bool) → Holds B.kind self.now held → result ≡ tally held (length self.now.blocks.now) }
     {
         self.fresh - 1 - self.empty_blocks_count
     }
@@ -132,7 +132,7 @@ impl<'a, B: IBlock> Level<'a, B> {
     /// The block in slot i.
     pub fn at(&self, i: usize) -> &B
         requires { i < length self.now.blocks.now }
-        ensures { result.now ≡ slice_index_or self.now.blocks.now i kind.blank }
+        ensures { result.now ≡ slice_index_or self.now.blocks.now i B.kind.blank }
     {
         let s = &*self.blocks;
         &s[i]

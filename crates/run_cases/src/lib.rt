@@ -1,4 +1,5 @@
 //! Worked cases of lists of calls, run.
+#![tactic(auto)]
 
 #[cfg(test)]
 mod lists_tests;

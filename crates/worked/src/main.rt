@@ -1,4 +1,5 @@
 //! The worked cases: those of the table are proved from the definitions, the others are run.
+#![tactic(auto)]
 ghost use Rattle.worked.specs.Table.{AllHold, table};
 
 use pool::block::Block;

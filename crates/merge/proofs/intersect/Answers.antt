@@ -13,13 +13,13 @@ loop-i-init g c =
     let x = g.X.LevelMasks.word c.args.x.now in
     start_groups bit_and x _ s c.requires.sound
     (λ a b z.
-    let n : word s a b ≡ 0 = unannounced (word s a b) _ (covers_top s c.requires.sound a b) (ap (λ m. bit m a) (sym c.level0-mask-own.ensures) ∙ z) in
+    let n : word s a b ≡ 0 = unannounced (word s a b) _ (covers_top s c.requires.sound a b) (ap (λ m. bit m a) (sym c.level0_mask-own.ensures) ∙ z) in
     ap (λ w. bit_and w (x a b)) n ∙ and_zero_l (x a b) ∙ sym n)
 
 pub loop-i-preserved : goal.loop-i-preserved
 loop-i-preserved g c =
     let h = c.in-Some.ensures.bits in
-    both bit_and (g.X.LevelMasks.word c.args.x.now) _ _ _ _ _ _ c.loop-i.invariant c.intersect-group.ensures (group_there _ _ _ h) (group_gone _ _ _ h)
+    both bit_and (g.X.LevelMasks.word c.args.x.now) _ _ _ _ _ _ c.loop-i.invariant c.intersect_group.ensures (group_there _ _ _ h) (group_gone _ _ _ h)
 
 pub returns : goal.returns
 returns g c = record { words = repicked bit_and (g.X.LevelMasks.word c.args.x.now) _ _ _ _ (groups_end _ c.in-default.ensures.bits.0) c.loop-i.invariant }

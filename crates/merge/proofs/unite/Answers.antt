@@ -14,15 +14,15 @@ loop-i-init g c =
     let x = g.X.LevelMasks.word c.args.x.now in
     start_groups bit_or x _ s c.requires.sound
     (λ a b z.
-    let n : x a b ≡ 0 = unannounced (x a b) _ (c.rules.ensures.covers_top a b) (ap (λ m. bit m a) (sym c.level0-mask-announced.ensures) ∙ z) in
+    let n : x a b ≡ 0 = unannounced (x a b) _ (c.rules.ensures.covers_top a b) (ap (λ m. bit m a) (sym c.level0_mask-announced.ensures) ∙ z) in
     ap (bit_or (word s a b)) n ∙ or_zero_r (word s a b))
 
-pub unite-group-requires : goal.unite-group-requires
-unite-group-requires g c =
+pub unite_group-requires : goal.unite_group-requires
+unite_group-requires g c =
     let s = c.args.tree.now in
     let x = g.X.LevelMasks.word c.args.x.now in
     let m = c.loop-i.invariant in
-    let f = accepted s x c.in-ok-check-fits.ensures in
+    let f = accepted s x c.in_ok-check_fits.ensures in
     record {
       sound = m.sound;
       operand = c.requires.operand;
@@ -34,13 +34,13 @@ unite-group-requires g c =
 pub loop-i-preserved : goal.loop-i-preserved
 loop-i-preserved g c =
     let h = c.in-Some.ensures.bits in
-    both bit_or (g.X.LevelMasks.word c.args.x.now) _ _ _ _ _ _ c.loop-i.invariant c.unite-group.ensures (group_there _ _ _ h) (group_gone _ _ _ h)
+    both bit_or (g.X.LevelMasks.word c.args.x.now) _ _ _ _ _ _ c.loop-i.invariant c.unite_group.ensures (group_there _ _ _ h) (group_gone _ _ _ h)
 
 pub returns : goal.returns
 returns g c =
     let m = c.loop-i.invariant in
     record {
-      answer = c.in-ok-check-fits.ensures;
+      answer = c.in_ok-check_fits.ensures;
       words = λ _. repicked bit_or (g.X.LevelMasks.word c.args.x.now) _ _ _ _ (groups_end _ c.in-default.ensures.bits.0) m;
       kept = λ q. absurd (false≢true q);
       lent = m.lent;

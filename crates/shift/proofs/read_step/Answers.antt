@@ -8,30 +8,30 @@ use Rattle.shift.specs.declared.Step.TheVariants.{Nothing}
 use Rattle.shift.proofs.Keywords.{busy, idle_empty, idle_note}
 use Rattle.shift.proofs.Meaning.{only, alone}
 use Rattle.shift.proofs.read_step.Goals as goal
-use Rattle.shift.proofs.read_step.Goals.{then-is-empty-via-then-is-empty, then-is-empty-via-else-is-empty+then-line-eq-NOTE}
+use Rattle.shift.proofs.read_step.Goals.{then-is_empty-via-then-is_empty, then-is_empty-via-else-is-empty+then-line-eq-NOTE}
 
-pub returns-then-is-empty : goal.returns-then-is-empty
-returns-then-is-empty c =
+pub returns-then-is_empty : goal.returns-then-is_empty
+returns-then-is_empty c =
     let line = c.args.line.now in
-    let told : Idle line = elim c.then-is-empty.branch [
-      | then-is-empty-via-then-is-empty w ↦ idle_empty line (search rules)
-      | then-is-empty-via-else-is-empty+then-line-eq-NOTE w ↦ idle_note line (search rules) w.if-line-eq-NOTE.true
+    let told : Idle line = elim c.then-is_empty.branch [
+      | then-is_empty-via-then-is_empty w ↦ idle_empty line (search rules)
+      | then-is_empty-via-else-is-empty+then-line-eq-NOTE w ↦ idle_note line (search rules) w.if-line-eq-NOTE.true
     ] in
     record { told = told; only = only line (Ok Nothing) told; alone = alone line (Ok Nothing) told }
 
 pub returns-in-Some : goal.returns-in-Some
 returns-in-Some c =
     let line = c.args.line.now in
-    let list = c.first-field.result.1.now in
-    let e : line ≡ spelling c.in-Some.w ++ list = c.first-field.ensures.whole ∙ ap (λ f. f ++ list) c.in-Some.ensures in
-    let told = MatchResult-weaker c.step-of.result {P' = λ s. Says line s} {Q' = λ e. Fault line e} c.step-of.ensures
+    let list = c.first_field.result.1.now in
+    let e : line ≡ spelling c.in-Some.w ++ list = c.first_field.ensures.whole ∙ ap (λ f. f ++ list) c.in-Some.ensures in
+    let told = MatchResult-weaker c.step_of.result {P' = λ s. Says line s} {Q' = λ e. Fault line e} c.step_of.ensures
     (λ s h. subst (λ l. Says l s) (sym e) h)
-    (λ x h. inr (c.in-Some.w, list, e, c.first-field.ensures.ends, h)) in
-    record { told = told; only = only line c.step-of.result told; alone = alone line c.step-of.result told }
+    (λ x h. inr (c.in-Some.w, list, e, c.first_field.ensures.ends, h)) in
+    record { told = told; only = only line c.step_of.result told; alone = alone line c.step_of.result told }
 
 pub returns-in-None : goal.returns-in-None
 returns-in-None c =
     let line = c.args.line.now in
     let told : Fault line Keyword =
-    inl ((busy line (search rules) (search rules), (c.first-field.result.0.now, c.first-field.result.1.now, c.first-field.ensures, c.in-None.ensures)), refl) in
+    inl ((busy line (search rules) (search rules), (c.first_field.result.0.now, c.first_field.result.1.now, c.first_field.ensures, c.in-None.ensures)), refl) in
     record { told = told; only = only line (Err Keyword) told; alone = alone line (Err Keyword) told }

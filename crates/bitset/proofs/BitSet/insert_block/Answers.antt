@@ -19,16 +19,16 @@ returns c =
     let s = c.args.self.now.tree in
     let n = c.args.start in
     let w = c.args.word in
-    let at = c.level-indices-i.ensures in
-    let i = c.level-indices-i.result.0 in
-    let j = c.level-indices-i.result.1 in
-    let o = c.or-block.ensures in
+    let at = c.level_indices-i.ensures in
+    let i = c.level_indices-i.result.0 in
+    let j = c.level_indices-i.result.1 in
+    let o = c.or_block.ensures in
     let fw : w < 2 ^ 64 = search rules in
     let fit = fitting (slots1 s) (slots2 s) (made (members (word s)) (InsertBlock n w)) in
     let li : n < 262080 = omega arith in
     let z : n % 64 ≡ 0 = omega arith in
     let p : 0 < w = omega arith in
-    let g = gained s c.or-block.new.self (InsertBlock n w) (outcome c.or-block.result) i j w c.requires (omega (arith, at.level0)) (omega (arith, at.level1)) fw p
+    let g = gained s c.or_block.new.self (InsertBlock n w) (outcome c.or_block.result) i j w c.requires (omega (arith, at.level0)) (omega (arith, at.level1)) fw p
     o.answer o.put o.kept
     (joined (word s) i j w _ (omega (arith, at.level0)) (λ m p. block_in n w z m (p.0 ∙ at.level0, p.1 ∙ at.level1)) (λ m ne. block_out n w z m (λ p. ne (p.0 ∙ sym at.level0, p.1 ∙ sym at.level1))))
     (ap (λ b. cond b Done (cond (eqb (n % 64) 0) (cond (ltb n 262080) fit (Refused 1)) (Refused 2))) (ne_eqb w 0 (λ e. omega arith))

@@ -10,20 +10,20 @@ loop-i-init g c =
     let s = c.args.tree.now in
     let t = c.requires.sound in
     let x = g.X.LevelMasks.word c.args.x.now in
-    let top = c.level0-mask-top.result in
-    let covers : (i j : ℕ) → 0 < x i j → bit top i ≡ 1 = λ i j p. ap (λ m. bit m i) c.level0-mask-top.ensures ∙ c.rules.ensures.covers_top i j p in
+    let top = c.level0_mask-top.result in
+    let covers : (i j : ℕ) → 0 < x i j → bit top i ≡ 1 = λ i j p. ap (λ m. bit m i) c.level0_mask-top.ensures ∙ c.rules.ensures.covers_top i j p in
     (omega (arith, groups_start s t x top covers), omega (arith, blocks_start s t x top covers))
 
-pub overflow-add-groups : goal.overflow-add-groups
-overflow-add-groups g c =
+pub overflow_add-groups : goal.overflow_add-groups
+overflow_add-groups g c =
     let s = c.args.tree.now in
     let x = g.X.LevelMasks.word c.args.x.now in
     let e = c.added-g.ensures.groups in
     let d : c.added-g.result.0 ≡ adds_group s x c.in-Some.i = omega arith in
     omega (arith, counted_one c.loop-i.groups _ _ _ _ _ (adds_group s x) c.in-Some.ensures.bits d c.loop-i.invariant.0, groups_few s c.requires.sound x)
 
-pub overflow-add-blocks : goal.overflow-add-blocks
-overflow-add-blocks g c =
+pub overflow_add-blocks : goal.overflow_add-blocks
+overflow_add-blocks g c =
     let s = c.args.tree.now in
     let x = g.X.LevelMasks.word c.args.x.now in
     let e = c.added-g.ensures.blocks in

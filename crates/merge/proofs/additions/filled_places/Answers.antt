@@ -14,22 +14,22 @@ told b w l up down = ⊎_elim (λ (p : 0 < w). omega (arith, up p)) (λ (z : w �
 covered : (b w x : ℕ) → b < 2 → (0 < w → b ≡ 1) → min (b - x) (some w) ≡ min (some w) (1 - x)
 covered b w x l up = ⊎_elim (λ (p : 0 < w). omega (arith, up p)) (λ (z : w ≤ 0). omega arith) (cases_lt 0 w)
 
-pub returns-then-is-trusted : goal.returns-then-is-trusted
-returns-then-is-trusted g c j l =
+pub returns-then-is_trusted : goal.returns-then-is_trusted
+returns-then-is_trusted g c j l =
     let r = c.rules.ensures in
     let i = c.args.i in
-    let m = c.init-level1-block-data-mask.result.0 in
+    let m = c.init_level1_block_data-mask.result.0 in
     let w = g.X.LevelMasks.word c.args.x.now i j in
-    let e : bit m j ≡ bit (g.X.LevelMasks.middle c.args.x.now i) j = ap (λ z. bit z j) c.init-level1-block-data-mask.ensures.mask in
-    let t : bit m j ≡ some w = e ∙ told _ w (bit_lt _ j) (r.covers_middle i j) (r.trusts_middle (sym c.if-is-trusted.ensures) i j) in
+    let e : bit m j ≡ bit (g.X.LevelMasks.middle c.args.x.now i) j = ap (λ z. bit z j) c.init_level1_block_data-mask.ensures.mask in
+    let t : bit m j ≡ some w = e ∙ told _ w (bit_lt _ j) (r.covers_middle i j) (r.trusts_middle (sym c.if-is_trusted.ensures) i j) in
     omega (arith, bit_and_not 64 m c.args.but j (omega (arith, c.ranges.but)) l, t, bit_lt c.args.but j)
 
 pub returns : goal.returns
 returns g c j l =
     let r = c.rules.ensures in
     let i = c.args.i in
-    let m = c.init-level1-block-data-mask.result.0 in
+    let m = c.init_level1_block_data-mask.result.0 in
     let w = g.X.LevelMasks.word c.args.x.now i j in
-    let e : bit m j ≡ bit (g.X.LevelMasks.middle c.args.x.now i) j = ap (λ z. bit z j) c.init-level1-block-data-mask.ensures.mask in
+    let e : bit m j ≡ bit (g.X.LevelMasks.middle c.args.x.now i) j = ap (λ z. bit z j) c.init_level1_block_data-mask.ensures.mask in
     let z : bit c.loop-j.left j ≡ 0 = ap (λ z. bit z j) c.in-default.ensures.bits.0 ∙ bit_of_zero j in
     omega (arith, (c.loop-j.invariant j l).1, z, bit_and_not 64 m c.args.but j (omega (arith, c.ranges.but)) l, e, covered _ w (bit c.args.but j) (bit_lt _ j) (r.covers_middle i j))

@@ -15,7 +15,7 @@ loop-j-init g c =
     let x = g.X.LevelMasks.word c.args.x.now in
     start_places bit_and x i _ s c.requires.sound
     (λ b z.
-    let n : word s i b ≡ 0 = unannounced (word s i b) _ (covers_middle s c.requires.sound i b) (ap (λ m. bit m b) (sym c.level1-mask-left.ensures) ∙ z) in
+    let n : word s i b ≡ 0 = unannounced (word s i b) _ (covers_middle s c.requires.sound i b) (ap (λ m. bit m b) (sym c.level1_mask-left.ensures) ∙ z) in
     ap (λ w. bit_and w (x i b)) n ∙ and_zero_l (x i b) ∙ sym n)
 
 pub loop-j-preserved : goal.loop-j-preserved
@@ -25,9 +25,9 @@ loop-j-preserved g c =
     let x = g.X.LevelMasks.word c.args.x.now in
     let s = c.loop-j.tree in
     let h = c.in-Some.ensures.bits in
-    let e : c.data-mask-from-block-data-w.result ≡ x i j = c.data-mask-from-block-data-w.ensures i c.init-level1-block-data-block.ensures.made in
-    let p = subst (λ v. Put s c.and-block.new.self i j (bit_and (word s i j) v)) e c.and-block.ensures.put in
-    both bit_and x _ _ _ _ _ _ c.loop-j.invariant (one_word bit_and x i j s _ p c.and-block.ensures.lent) (place_there _ _ _ h i) (place_gone _ _ _ h i)
+    let e : c.data_mask_from_block_data-w.result ≡ x i j = c.data_mask_from_block_data-w.ensures i c.init_level1_block_data-block.ensures.made in
+    let p = subst (λ v. Put s c.and_block.new.self i j (bit_and (word s i j) v)) e c.and_block.ensures.put in
+    both bit_and x _ _ _ _ _ _ c.loop-j.invariant (one_word bit_and x i j s _ p c.and_block.ensures.lent) (place_there _ _ _ h i) (place_gone _ _ _ h i)
 
 pub returns : goal.returns
 returns g c = repicked bit_and (g.X.LevelMasks.word c.args.x.now) _ _ _ _ (places_end c.args.i _ c.in-default.ensures.bits.0) c.loop-j.invariant

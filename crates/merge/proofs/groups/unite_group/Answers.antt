@@ -16,18 +16,18 @@ loop-j-init g c =
     let x = g.X.LevelMasks.word c.args.x.now in
     start_places bit_or x i _ s c.requires.sound
     (λ b z.
-    let n : x i b ≡ 0 = unannounced (x i b) _ (c.rules.ensures.covers_middle i b) (ap (λ m. bit m b) (sym c.init-level1-block-data-left.ensures.mask) ∙ z) in
+    let n : x i b ≡ 0 = unannounced (x i b) _ (c.rules.ensures.covers_middle i b) (ap (λ m. bit m b) (sym c.init_level1_block_data-left.ensures.mask) ∙ z) in
     ap (bit_or (word s i b)) n ∙ or_zero_r (word s i b))
 
-pub join-block-requires : goal.join-block-requires
-join-block-requires g c =
+pub join_block-requires : goal.join_block-requires
+join_block-requires g c =
     let i = c.args.i in
     let j = c.in-Some.j in
     let x = g.X.LevelMasks.word c.args.x.now in
     let m = c.loop-j.invariant in
     let lj = c.in-Some.ensures.bits.within in
-    let w : 0 < c.data-mask-from-block-data-w.result = omega arith in
-    let e : c.data-mask-from-block-data-w.result ≡ x i j = c.data-mask-from-block-data-w.ensures i c.init-level1-block-data-left.ensures.made in
+    let w : 0 < c.data_mask_from_block_data-w.result = omega arith in
+    let e : c.data_mask_from_block_data-w.result ≡ x i j = c.data_mask_from_block_data-w.ensures i c.init_level1_block_data-left.ensures.made in
     record {
       sound = m.sound;
       place = (c.requires.place, lj);
@@ -42,9 +42,9 @@ loop-j-preserved-then-w-ne0 g c =
     let x = g.X.LevelMasks.word c.args.x.now in
     let s = c.loop-j.tree in
     let h = c.in-Some.ensures.bits in
-    let e : c.data-mask-from-block-data-w.result ≡ x i j = c.data-mask-from-block-data-w.ensures i c.init-level1-block-data-left.ensures.made in
-    let p = subst (λ v. Put s c.join-block.new.self i j (bit_or (word s i j) v)) e c.join-block.ensures.put in
-    both bit_or x _ _ _ _ _ _ c.loop-j.invariant (one_word bit_or x i j s _ p c.join-block.ensures.lent) (place_there _ _ _ h i) (place_gone _ _ _ h i)
+    let e : c.data_mask_from_block_data-w.result ≡ x i j = c.data_mask_from_block_data-w.ensures i c.init_level1_block_data-left.ensures.made in
+    let p = subst (λ v. Put s c.join_block.new.self i j (bit_or (word s i j) v)) e c.join_block.ensures.put in
+    both bit_or x _ _ _ _ _ _ c.loop-j.invariant (one_word bit_or x i j s _ p c.join_block.ensures.lent) (place_there _ _ _ h i) (place_gone _ _ _ h i)
 
 pub loop-j-preserved : goal.loop-j-preserved
 loop-j-preserved g c =
@@ -53,7 +53,7 @@ loop-j-preserved g c =
     let x = g.X.LevelMasks.word c.args.x.now in
     let s = c.loop-j.tree in
     let h = c.in-Some.ensures.bits in
-    let e : c.data-mask-from-block-data-w.result ≡ x i j = c.data-mask-from-block-data-w.ensures i c.init-level1-block-data-left.ensures.made in
+    let e : c.data_mask_from_block_data-w.result ≡ x i j = c.data_mask_from_block_data-w.ensures i c.init_level1_block_data-left.ensures.made in
     let n : x i j ≡ 0 = sym e ∙ c.if-w-ne0.false in
     both bit_or x _ _ _ _ _ _ c.loop-j.invariant (no_word bit_or x i j s c.loop-j.invariant.sound (ap (bit_or (word s i j)) n ∙ or_zero_r (word s i j))) (place_there _ _ _ h i) (place_gone _ _ _ h i)
 

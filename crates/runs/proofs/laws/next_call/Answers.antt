@@ -12,13 +12,13 @@ returns g c =
     let asks = g.S.Script.asks c.args.list in
     let ask = g.C.Call.asks c.args.call in
     let left = leaves (new_roll u l) asks in
-    let made = c.after-list-set.ensures.members in
+    let made = c.after_list-set.ensures.members in
     let says = c.on-answer.ensures.says ∙ ap (λ r. reply r ask) made in
     record {
       memory = subst (MemoryRule left ask) (sym says) (list_rule (length u - 1) (length l - 1) asks ask);
       answer = says;
       members = c.on-answer.ensures.roll ∙ ap (λ r. next r ask) made;
-      answers = c.after-list-set.ensures.answers;
+      answers = c.after_list-set.ensures.answers;
       sound = c.on-answer.ensures.sound;
-      lent = (c.on-answer.ensures.lent.upper ∙ c.after-list-set.ensures.lent.0, c.on-answer.ensures.lent.lower ∙ c.after-list-set.ensures.lent.1);
+      lent = (c.on-answer.ensures.lent.upper ∙ c.after_list-set.ensures.lent.0, c.on-answer.ensures.lent.lower ∙ c.after_list-set.ensures.lent.1);
     }

@@ -13,10 +13,10 @@ grows n d i h l = rw add-one (omega arith)
 decimal : (xs : List ℕ) (i : ℕ) → length xs ≤ i → All Digit (take i xs) → 1 ≤ length xs → length xs ≤ 20 → Decimal xs
 decimal xs i h all some few = record { digits = rw (take_all i xs h) at all; some = some; few = few }
 
-pub returns-then-not-is-ascii-digit : goal.returns-then-not-is-ascii-digit
-returns-then-not-is-ascii-digit c =
+pub returns-then-not-is_ascii_digit : goal.returns-then-not-is_ascii_digit
+returns-then-not-is_ascii_digit c =
     inl (
-      λ d. let h = c.if-not-is-ascii-digit.ensures.cases in
+      λ d. let h = c.if-not-is_ascii_digit.ensures.cases in
           let k = All-get_or Digit c.args.field.now c.loop-b.b-index 0 c.loop-b-test.true d.digits in
           search rules,
       refl,
@@ -24,7 +24,7 @@ returns-then-not-is-ascii-digit c =
 
 pub loop-b-preserved : goal.loop-b-preserved
 loop-b-preserved c =
-    let h = c.if-not-is-ascii-digit.ensures.cases in
+    let h = c.if-not-is_ascii_digit.ensures.cases in
     let e = fold_more (λ n c. n * 10 + (c - 48)) 0 c.args.field.now c.loop-b.b-index 0 c.loop-b-test.true in (
       All-more Digit c.args.field.now c.loop-b.b-index 0 c.loop-b-test.true c.loop-b.invariant.0 (search rules),
       omega (arith, e),

@@ -18,7 +18,7 @@ returns c =
     let h = c.requires.shape in
     let got = c.in-Some.ensures.taken (held_by (count1 s)) h.holds1 in
     record {
-      grown = grow s _ c.args.i c.in-Some.b h c.requires.place (omega arith) refl refl (λ a l. c.set-bit-self.ensures a) got;
+      grown = grow s _ c.args.i c.in-Some.b h c.requires.place (omega arith) refl refl (λ a l. c.set_bit-self.ensures a) got;
       slot = sym (get_or-set_same s.level0.slots c.args.i c.in-Some.b 0 (omega (arith, h.long, c.requires.place)));
       lent = record { upper = c.in-Some.ensures.lent; lower = refl };
     }

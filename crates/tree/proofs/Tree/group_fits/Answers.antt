@@ -15,5 +15,5 @@ returns c =
     let s = c.args.self.now in
     let h = c.requires.sound.0 in
     let t = c.requires.sound in
-    let e : c.held-blocks.result + 1 ≡ groups_with s c.args.i = omega (arith, new_group s t c.args.i (omega arith), c.held-blocks.ensures (held_by (count1 s)) h.holds1, tally1 s h, used_groups s t.1) in
+    let e : c.held_blocks.result + 1 ≡ groups_with s c.args.i = omega (arith, new_group s t c.args.i (omega arith), c.held_blocks.ensures (held_by (count1 s)) h.holds1, tally1 s h, used_groups s t.1) in
     ap (λ x. ltb x c.size.result) e ∙ ap (ltb (groups_with s c.args.i)) c.size.ensures ∙ below_upto _ _ (some1 s t)

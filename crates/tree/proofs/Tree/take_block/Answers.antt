@@ -11,8 +11,8 @@ use Rattle.tree.proofs.Tree.take_block.Goals as goal
 pub at-requires : goal.at-requires
 at-requires c = omega (arith, c.requires.group, within1 c.args.self.now c.requires.shape c.args.i)
 
-pub put-place-requires : goal.put-place-requires
-put-place-requires c = record { slot = omega (arith, c.requires.group, within1 c.args.self.now c.requires.shape c.args.i); place = c.requires.place.1 }
+pub put_place-requires : goal.put_place-requires
+put_place-requires c = record { slot = omega (arith, c.requires.group, within1 c.args.self.now c.requires.shape c.args.i); place = c.requires.place.1 }
 
 pub unreachable-requires : goal.unreachable-requires
 unreachable-requires c =
@@ -27,14 +27,14 @@ returns c =
     let h = c.requires.shape in
     let i = c.args.i in
     let j = c.args.j in
-    let m = c.set-bit-mask.result in
+    let m = c.set_bit-mask.result in
     let e : c.at.result.now ≡ node s i = c.at.ensures ∙ ap (λ k. get_or s.level1.blocks.now k level1_kind.blank) c.requires.group in
     let got = c.in-Some.ensures.taken (held_by (count2 s)) h.holds2 in
     let fm : m < 2 ^ 64 = search rules in
-    let em : (a : ℕ) → a < 64 → bit m a ≡ max (bit (node s i).mask a) (same a j) = λ a l. c.set-bit-mask.ensures a ∙ ap (λ (b : Block). max (bit b.mask a) (same a j)) e in
-    let wr = rw c.requires.group at c.put-place.ensures.wrote in
+    let em : (a : ℕ) → a < 64 → bit m a ≡ max (bit (node s i).mask a) (same a j) = λ a l. c.set_bit-mask.ensures a ∙ ap (λ (b : Block). max (bit b.mask a) (same a j)) e in
+    let wr = rw c.requires.group at c.put_place.ensures.wrote in
     record {
       filled = fill s _ i j m c.in-Some.c fm h c.requires.place.1 c.requires.has c.requires.none refl refl em got wr;
-      slot = sym (fill_here s (record { level0 = s.level0; level1 = c.put-place.new.self; «data» = c.insert-empty-block.new.self }) i j m c.in-Some.c fm h c.requires.place.1 c.requires.has c.requires.none refl refl em got wr);
-      lent = record { upper = c.put-place.ensures.lent; lower = c.in-Some.ensures.lent };
+      slot = sym (fill_here s (record { level0 = s.level0; level1 = c.put_place.new.self; «data» = c.insert_empty_block.new.self }) i j m c.in-Some.c fm h c.requires.place.1 c.requires.has c.requires.none refl refl em got wr);
+      lent = record { upper = c.put_place.ensures.lent; lower = c.in-Some.ensures.lent };
     }

@@ -6,5 +6,5 @@ use Rattle.view.proofs.ViewLevelMasks.rules.Goals as goal
 pub returns : goal.returns
 returns c =
     let t = c.args.self.now.set.now.tree in
-    let e : c.level0-mask.result ≡ t.level0.mask = c.level0-mask.ensures ∙ ap (λ (x : Tree). x.level0.mask) c.tree.ensures in
-    set_ruled t c.requires (omega (arith, c.level0-mask.type-inv))
+    let e : c.level0_mask.result ≡ t.level0.mask = c.level0_mask.ensures ∙ ap (λ (x : Tree). x.level0.mask) c.tree.ensures in
+    set_ruled t c.requires (omega (arith, c.level0_mask.type_inv))

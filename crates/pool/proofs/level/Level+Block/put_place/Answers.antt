@@ -8,5 +8,5 @@ pub returns : goal.returns
 returns c =
     let bs = c.args.self.now.blocks.now in
     let d = get_or_default bs c.args.i (record { mask = 0; slots = [] }) level1_kind.blank c.requires.slot in
-    let e = c.set-place.ensures ∙ ap (λ (b : Block). record { mask = c.args.mask; slots = set b.slots c.args.k c.args.slot }) d in
+    let e = c.set_place.ensures ∙ ap (λ (b : Block). record { mask = c.args.mask; slots = set b.slots c.args.k c.args.slot }) d in
     record { wrote = record { written = ap (set bs c.args.i) e; same_root = refl; same_count = refl; same_fresh = refl }; lent = refl }

@@ -7,7 +7,7 @@ pub returns : goal.returns
 returns g c =
     let m = g.T.LevelMasks.middle c.args.set in
     record {
-      sane = (c.requires, c.init-level1-block-data-block.ensures.made, omega arith);
+      sane = (c.requires, c.init_level1_block_data-block.ensures.made, omega arith);
       same = refl;
-      starts = pending_start m c.level0-mask-top.result ∙ ap (whole m) c.level0-mask-top.ensures;
+      starts = pending_start m c.level0_mask-top.result ∙ ap (whole m) c.level0_mask-top.ensures;
     }

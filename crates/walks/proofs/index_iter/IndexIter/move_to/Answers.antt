@@ -20,14 +20,14 @@ returns-after-start-s g c =
     λ left. s ≤ 4096 * a + 64 * b + 63 → (k : ℕ) → k < 64 → (s ≤ 4096 * a + 64 * b + k → bit left k ≡ bit v k) × (4096 * a + 64 * b + k < s → bit left k ≡ 0) in
     let h : Cut c.if-start-s.self =
     elim c.if-start-s.branch [
-      | then-start-s x ↦ subst Cut (sym x.self-is) (word_cut s a b v _ (omega (arith, at.1, x.if-start-s.true)) x.zero-first-n-self.ensures.below x.zero-first-n-self.ensures.above)
+      | then-start-s x ↦ subst Cut (sym x.self-is) (word_cut s a b v _ (omega (arith, at.1, x.if-start-s.true)) x.zero_first_n-self.ensures.below x.zero_first_n-self.ensures.above)
       | else-start-s x ↦ subst Cut (sym x.self-is) (word_whole s a b v (λ e. x.if-start-s.false (at.1 ∙ e)))
     ] in
-    let goes = sought_some g.T.LevelMasks.middle g.T.LevelMasks.word c.args.self.now.walk.set c.move-to.new.self.set c.next.new.self.set
-    c.move-to.ensures.same told.same _ _ c.rules.ensures s _ _ _ c.move-to.ensures.onward a b c.in-Some.block.start_index v c.if-start-s.self _ _ _ at.0 at.1 at.2 h in
+    let goes = sought_some g.T.LevelMasks.middle g.T.LevelMasks.word c.args.self.now.walk.set c.move_to.new.self.set c.next.new.self.set
+    c.move_to.ensures.same told.same _ _ c.rules.ensures s _ _ _ c.move_to.ensures.onward a b c.in-Some.block.start_index v c.if-start-s.self _ _ _ at.0 at.1 at.2 h in
     record {
       sane = (told.sane.0, told.sane.1, told.sane.2, omega (arith, at.1, at.3, at.4));
-      same = told.same ∙ c.move-to.ensures.same;
+      same = told.same ∙ c.move_to.ensures.same;
       onward = goes;
       lists = subst (Lists (members (g.T.LevelMasks.word c.args.self.now.walk.set)) s) (sym goes) (lists_from _ s);
     }
@@ -36,11 +36,11 @@ pub returns-in-None : goal.returns-in-None
 returns-in-None g c =
     let s = c.args.s in
     let told = c.in-None.ensures in
-    let goes = sought_none g.T.LevelMasks.middle g.T.LevelMasks.word c.args.self.now.walk.set c.move-to.new.self.set c.next.new.self.set
-    c.move-to.ensures.same told.same _ _ c.rules.ensures s _ _ _ c.move-to.ensures.onward _ _ _ c.args.self.now.start told.handed.0 told.handed.1 in
+    let goes = sought_none g.T.LevelMasks.middle g.T.LevelMasks.word c.args.self.now.walk.set c.move_to.new.self.set c.next.new.self.set
+    c.move_to.ensures.same told.same _ _ c.rules.ensures s _ _ _ c.move_to.ensures.onward _ _ _ c.args.self.now.start told.handed.0 told.handed.1 in
     record {
       sane = (told.sane.0, told.sane.1, told.sane.2, c.requires.3);
-      same = told.same ∙ c.move-to.ensures.same;
+      same = told.same ∙ c.move_to.ensures.same;
       onward = goes;
       lists = subst (Lists (members (g.T.LevelMasks.word c.args.self.now.walk.set)) s) (sym goes) (lists_from _ s);
     }
