@@ -76,8 +76,8 @@ fn run(rt: &HostRuntime) -> anyhow::Result<()> {
 // The error of a line that cannot be read.
 fn amiss(heap: Global, line: usize, expected: &str) -> anyhow::Error {
     match format!(in heap; "line {line}: expected {expected}") {
-        Ok(text) => text.into(),
-        Err(_) => "no memory".into(),
+        Ok(text) => anyhow!(text),
+        Err(_) => anyhow!("no memory"),
     }
 }
 

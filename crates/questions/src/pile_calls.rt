@@ -6,7 +6,7 @@ use super::piles::{Asker, Pile};
 use bitset::BitSet;
 use operands::bitset_interface::{LevelMasksIterExt, contains};
 use runs::calls::Call;
-use seeks::{Acts, indices_of};
+use acts::{Acts, indices_of};
 use view::View;
 
 // Whether a pile has an index.

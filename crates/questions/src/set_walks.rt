@@ -4,7 +4,7 @@ ghost use Rattle.runs.specs.Asks as asked;
 
 use bitset::BitSet;
 use runs::calls::Call;
-use seeks::{Acts, blocks_of, indices_of};
+use acts::{Acts, blocks_of, indices_of};
 use view::View;
 use walks::block_iter::DataBlock;
 

@@ -8,7 +8,7 @@ use roll::Refusal;
 use runs::calls::{Contains, Insert, InsertBlock, Intersect, Remove, Unite, Used};
 use runs::laws::{after_list, alike, next_call};
 use runs::script::{Finish, Then};
-use seeks::{Stop, ThenNext, ThenSeek};
+use acts::{Stop, ThenNext, ThenSeek};
 use view::View;
 
 // what a slice may hold before it is lent

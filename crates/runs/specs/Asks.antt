@@ -3,9 +3,9 @@ use Rattle.std.specs.Prelude.{ℕ, ◌-◌, Bool, List, [], ◌∷◌, length, O
 use Rattle.roll.specs.Roll.{Roll, Call, Answer, Told, nobody, answer, after}
 use Rattle.walks.specs.declared.block_iter.DataBlock.{DataBlock}
 use Rattle.walks.specs.Indices.{listed, from}
-use Rattle.seeks.specs.declared.Action.{Action}
-use Rattle.seeks.specs.Answers.{answers}
-use Rattle.seeks.specs.Blocks.{filled, reaching}
+use Rattle.acts.specs.declared.Action.{Action}
+use Rattle.acts.specs.Answers.{answers}
+use Rattle.acts.specs.Blocks.{filled, reaching}
 
 pub data Ask : Type 0 where
   -- a call of the set itself

@@ -1,7 +1,7 @@
 -- When two lists ask the same: operands and piles are compared by their members alone, whatever their kind and masks.
 use Rattle.std.specs.Prelude.{◌≡◌, ℕ, Bool, List, [], ◌∷◌}
 use Rattle.roll.specs.Roll.{Unite, Intersect}
-use Rattle.seeks.specs.declared.Action.{Action}
+use Rattle.acts.specs.declared.Action.{Action}
 use Rattle.runs.specs.Asks.{Ask, Ordered, PileHas, PileIndices}
 
 pub data SameAsk : Ask → Ask → Type 0 where

@@ -1,18 +1,23 @@
 -- The answers of a walk to a list of nexts and seeks.
-use Rattle.std.specs.Prelude.{ℕ, List, [], ◌∷◌, Some, None, Option}
+use Rattle.std.specs.Prelude.{◌≡◌, ℕ, Bool, List, [], ◌∷◌, Some, None, Option}
+use Rattle.walks.specs.Indices.{listed, from}
 use Rattle.seeks.specs.declared.Action.{Action}
 use Rattle.seeks.specs.declared.Action.TheVariants.{Next, Seek}
 
-abbrev pub first : {I : Type 0} → List I → Option I
+abbrev pub first : List ℕ → Option ℕ
 first [] = None
 first (x ∷ xs) = Some x
 
-abbrev pub rest : {I : Type 0} → List I → List I
+abbrev pub rest : List ℕ → List ℕ
 rest [] = []
 rest (x ∷ xs) = xs
 
--- what a walk over xs answers to a list of actions, where ys are left and a seek to s leaves cut s xs
-abbrev pub answers : {I : Type 0} → (ℕ → List I → List I) → List I → List I → List Action → List (Option I)
-answers cut xs ys [] = []
-answers cut xs ys (Next ∷ acts) = first ys ∷ answers cut xs (rest ys) acts
-answers cut xs ys (Seek s ∷ acts) = answers cut xs (cut s xs) acts
+-- what a walk over the numbers that pass p answers to a list of actions, where xs are left
+unfoldable pub answers : (ℕ → Bool) → List ℕ → List Action → List (Option ℕ)
+answers p xs [] = []
+answers p xs (Next ∷ acts) = first xs ∷ answers p (rest xs) acts
+answers p xs (Seek s ∷ acts) = answers p (from s (listed p)) acts
+
+-- walks over the same members give the same answers
+abbrev pub SameAnswers : Type 0
+SameAnswers = (p q : ℕ → Bool) → ((n : ℕ) → p n ≡ q n) → (acts : List Action) → answers p (listed p) acts ≡ answers q (listed q) acts

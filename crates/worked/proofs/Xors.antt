@@ -7,7 +7,7 @@ use Rattle.bits.specs.Places.{scan, places}
 use Rattle.bits.specs.Indices.{offset}
 use Rattle.roll.specs.Members.{any, one}
 use Rattle.walks.specs.Pending.{row, rows, whole}
-use Rattle.seeks.specs.Blocks.{announced, block_list, word_of}
+use Rattle.acts.specs.Blocks.{announced, block_list, word_of}
 use Rattle.worked.specs.Table.{among, top_of, middle_of, data_of, empty_at, Emptied}
 use Rattle.worked.proofs.Runs.{nowhere}
 

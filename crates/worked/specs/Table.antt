@@ -7,9 +7,9 @@ use Rattle.roll.specs.Members.{any, one}
 use Rattle.roll.specs.Roll.{nobody, Insert, Remove, Unite, Done, Told, Refused}
 use Rattle.operands.specs.Combined.{joined}
 use Rattle.walks.specs.declared.block_iter.DataBlock.{DataBlock}
-use Rattle.seeks.specs.declared.Action.{Action}
-use Rattle.seeks.specs.declared.Action.TheVariants.{Next, Seek}
-use Rattle.seeks.specs.Blocks.{announced, word_of}
+use Rattle.acts.specs.declared.Action.{Action}
+use Rattle.acts.specs.declared.Action.TheVariants.{Next, Seek}
+use Rattle.acts.specs.Blocks.{announced, word_of}
 use Rattle.runs.specs.Asks.{Ask, Reply, Ordered, Indices, Said, Listed, replies}
 
 -- the numbers of a list, as a test

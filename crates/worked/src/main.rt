@@ -8,7 +8,7 @@ use roll::Refusal;
 use runs::calls::{Insert, InsertBlock, Remove, Unite, Used};
 use runs::laws::{after_list, alike, next_call};
 use runs::script::{Finish, Then};
-use seeks::{Stop, ThenNext, ThenSeek};
+use acts::{Stop, ThenNext, ThenSeek};
 use view::View;
 
 // What the slices hold before they are lent.

@@ -8,14 +8,14 @@ use Rattle.shift.specs.declared.Step.TheVariants.{Nothing}
 use Rattle.shift.proofs.Keywords.{busy, idle_empty, idle_note}
 use Rattle.shift.proofs.Meaning.{only, alone}
 use Rattle.shift.proofs.read_step.Goals as goal
-use Rattle.shift.proofs.read_step.Goals.{then-is_empty-via-then-is_empty, then-is_empty-via-else-is-empty+then-line-eq-NOTE}
+use Rattle.shift.proofs.read_step.Goals.{then-is_empty-via-then-is_empty, then-is_empty-via-else-is_empty+then-line-eq-NOTE}
 
 pub returns-then-is_empty : goal.returns-then-is_empty
 returns-then-is_empty c =
     let line = c.args.line.now in
     let told : Idle line = elim c.then-is_empty.branch [
       | then-is_empty-via-then-is_empty w ↦ idle_empty line (search rules)
-      | then-is_empty-via-else-is-empty+then-line-eq-NOTE w ↦ idle_note line (search rules) w.if-line-eq-NOTE.true
+      | then-is_empty-via-else-is_empty+then-line-eq-NOTE w ↦ idle_note line (search rules) w.if-line-eq-NOTE.true
     ] in
     record { told = told; only = only line (Ok Nothing) told; alone = alone line (Ok Nothing) told }
 

@@ -7,9 +7,9 @@ use Rattle.roll.specs.Members.{one}
 use Rattle.roll.specs.Roll.{Insert, Remove, Unite, Done, Told, Refused, nobody, fitting}
 use Rattle.operands.specs.Combined.{joined}
 use Rattle.walks.specs.Indices.{from, listed}
-use Rattle.seeks.specs.declared.Action.{Action}
-use Rattle.seeks.specs.declared.Action.TheVariants.{Next, Seek}
-use Rattle.seeks.specs.Answers.{answers}
+use Rattle.acts.specs.declared.Action.{Action}
+use Rattle.acts.specs.declared.Action.TheVariants.{Next, Seek}
+use Rattle.acts.specs.Answers.{answers}
 use Rattle.runs.specs.Asks.{Said, Listed}
 use Rattle.worked.specs.Table.{run1, run2, shared}
 use Rattle.worked.proofs.Runs.{did, Goes, goes, nowhere}

@@ -7,7 +7,7 @@ use Rattle.shift.proofs.fields.next_number.Goals as goal
 pub returns-in_err-number : goal.returns-in_err-number
 returns-in_err-number c =
     let s = spaced c.args.text.now c.first_field.result.0.now c.first_field.result.1.now (search rules) (search rules) c.first_field.ensures in
-    let p = err_from_is_err_and c.from-residual.result c.from-residual.ensures.1 in
+    let p = err_from_is_err_and c.from_residual.result c.from_residual.ensures.1 in
     rw (p.1, p.2) (λ k. inr (_, _, s, inl c.in_err-number.ensures))
 
 pub returns : goal.returns

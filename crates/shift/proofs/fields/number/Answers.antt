@@ -35,7 +35,7 @@ pub returns-then-n-gt-LARGEST : goal.returns-then-n-gt-LARGEST
 returns-then-n-gt-LARGEST c =
     let e = ap value (take_all c.loop-b.b-index c.args.field.now c.loop-b-test.false) in
     inr (
-      decimal c.args.field.now c.loop-b.b-index c.loop-b-test.false c.loop-b.invariant.0 (search rules) c.if-field-gt-MOST-DIGITS.false,
+      decimal c.args.field.now c.loop-b.b-index c.loop-b-test.false c.loop-b.invariant.0 (search rules) c.if-field-gt-MOST_DIGITS.false,
       omega (arith, e),
       refl,
     )
@@ -43,7 +43,7 @@ returns-then-n-gt-LARGEST c =
 pub returns : goal.returns
 returns c =
     let e = ap value (take_all c.loop-b.b-index c.args.field.now c.loop-b-test.false) in (
-      decimal c.args.field.now c.loop-b.b-index c.loop-b-test.false c.loop-b.invariant.0 (search rules) c.if-field-gt-MOST-DIGITS.false,
+      decimal c.args.field.now c.loop-b.b-index c.loop-b-test.false c.loop-b.invariant.0 (search rules) c.if-field-gt-MOST_DIGITS.false,
       omega (arith, e),
       omega arith,
     )

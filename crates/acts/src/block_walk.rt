@@ -1,5 +1,5 @@
 //! The walk over blocks, as a walk that lists of actions are asked of.
-ghost use Rattle.seeks.specs.Blocks.{block_list, announced, reaching};
+ghost use Rattle.acts.specs.Blocks.{block_list, announced, reaching};
 ghost use Rattle.walks.specs.Left.{Sane, pairs_of};
 
 use super::Walk;

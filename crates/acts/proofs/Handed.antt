@@ -5,7 +5,7 @@ use Rattle.bits.specs.Places.{Taken}
 use Rattle.walks.specs.declared.block_iter.DataBlock.{DataBlock}
 use Rattle.walks.specs.Pending.{reaches, onward, Handed}
 use Rattle.walks.proofs.Seek.{kept_yes, kept_no}
-use Rattle.seeks.specs.Blocks.{block_of, block_list, reaching}
+use Rattle.acts.specs.Blocks.{block_of, block_list, reaching}
 
 module _ (word : ℕ → ℕ → ℕ) where
   pub blocks_taken : (xs : List (ℕ × ℕ)) (r : Option DataBlock) (ys : List (ℕ × ℕ)) → Handed word xs r ys → Taken (block_list word xs) r (block_list word ys)

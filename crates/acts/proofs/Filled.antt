@@ -14,7 +14,7 @@ use Rattle.roll.specs.Members.{members, one, any}
 use Rattle.roll.proofs.Counts.{bit_member, block_one}
 use Rattle.walks.specs.Pending.{row, rows, whole}
 use Rattle.walks.proofs.Seek.{one_or_none}
-use Rattle.seeks.specs.Blocks.{block_of, block_list, announced, word_of, block_at, fill, filled}
+use Rattle.acts.specs.Blocks.{block_of, block_list, announced, word_of, block_at, fill, filled}
 
 -- ---- the list of a set's blocks
 

@@ -1,6 +1,0 @@
-use Rattle.std.proofs.Common.{rules}
-use Rattle.seeks.proofs.Handed.{blocks_taken}
-use Rattle.seeks.proofs.block_walk.BlockIterWalkDataBlock.step.Goals as goal
-
-pub returns : goal.returns
-returns g c = search (rules, blocks_taken)
