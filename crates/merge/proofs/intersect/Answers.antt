@@ -22,4 +22,4 @@ loop-i-preserved g c =
     both bit_and (g.X.LevelMasks.word c.args.x.now) _ _ _ _ _ _ c.loop-i.invariant c.intersect_group.ensures (group_there _ _ _ h) (group_gone _ _ _ h)
 
 pub returns : goal.returns
-returns g c = record { words = repicked bit_and (g.X.LevelMasks.word c.args.x.now) _ _ _ _ (groups_end _ c.in-default.ensures.bits.0) c.loop-i.invariant }
+returns g c = record { words = repicked bit_and (g.X.LevelMasks.word c.args.x.now) _ _ _ _ (groups_end _ c.in_default.ensures.bits.0) c.loop-i.invariant }

@@ -41,7 +41,7 @@ returns g c =
     let m = c.loop-i.invariant in
     record {
       answer = c.in_ok-check_fits.ensures;
-      words = λ _. repicked bit_or (g.X.LevelMasks.word c.args.x.now) _ _ _ _ (groups_end _ c.in-default.ensures.bits.0) m;
+      words = λ _. repicked bit_or (g.X.LevelMasks.word c.args.x.now) _ _ _ _ (groups_end _ c.in_default.ensures.bits.0) m;
       kept = λ q. absurd (false≢true q);
       lent = m.lent;
     }

@@ -4,7 +4,7 @@ use Rattle.seeks.specs.Answers.{answers}
 use Rattle.walks.specs.Indices.{listed, from}
 use Rattle.seeks.proofs.Steps.{step_next, step_seek}
 use Rattle.seeks.proofs.run.Goals as goal
-use Rattle.seeks.proofs.run.Goals.{in-Next+in-ok-push, in-Seek}
+use Rattle.seeks.proofs.run.Goals.{in-Next+in_ok-push-in-Next, in-Seek}
 
 pub loop-a-preserved : goal.loop-a-preserved
 loop-a-preserved g c =
@@ -15,12 +15,12 @@ loop-a-preserved g c =
     let out = vec_items c.loop-a.out in
     let later = drop (i + 1) acts in
     elim c.match-a.branch [
-      | in-Next+in-ok-push w ↦ (
+      | in-Next+in_ok-push-in-Next w ↦ (
         subst g.W.Walk.sane (sym w.walk-is) w.step.ensures.stays,
         ap g.W.Walk.holds w.walk-is ∙ w.step.ensures.same ∙ c.loop-a.invariant.1,
         ap (λ v. vec_items v ++ answers p (g.W.Walk.left c.match-a.walk) later) w.out-is
             ∙ ap (λ x. vec_items w.push.new.self ++ answers p (g.W.Walk.left x) later) w.walk-is
-            ∙ step_next p acts i c.loop-a-test.true xs (g.W.Walk.left w.step.new.self) out w.step.result _ w.in-Next.is w.step.ensures.taken w.in-ok-push.ensures.items
+            ∙ step_next p acts i c.loop-a-test.true xs (g.W.Walk.left w.step.new.self) out w.step.result _ w.in-Next.is w.step.ensures.taken w.in_ok-push-in-Next.ensures.items
             ∙ c.loop-a.invariant.2,
       )
       | in-Seek w ↦ (

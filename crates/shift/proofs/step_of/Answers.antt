@@ -3,9 +3,9 @@ use Rattle.std.proofs.Common.{◌++◌, ap}
 use Rattle.shift.specs.Words.{spelling}
 use Rattle.shift.proofs.step_of.Goals as goal
 
-pub returns-in_ok-groups_in-Pools : goal.returns-in_ok-groups_in-Pools
-returns-in_ok-groups_in-Pools c =
-    (c.args.list.now, ap (λ w. spelling w ++ c.args.list.now) c.in-Pools.is, c.in_ok-groups_in-Pools.ensures)
+pub returns-in_ok-groups-in-Pools : goal.returns-in_ok-groups-in-Pools
+returns-in_ok-groups-in-Pools c =
+    (c.args.list.now, ap (λ w. spelling w ++ c.args.list.now) c.in-Pools.is, c.in_ok-groups-in-Pools.ensures)
 
 pub returns-in_ok-one_number-in-Machine : goal.returns-in_ok-one_number-in-Machine
 returns-in_ok-one_number-in-Machine c =

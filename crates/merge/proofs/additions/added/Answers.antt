@@ -8,8 +8,8 @@ use Rattle.merge.proofs.Counted.{new_row, row_some}
 use Rattle.merge.proofs.additions.added.Goals as goal
 use Rattle.merge.proofs.additions.added.Goals.{then-here-eq0+then-new-ne0, else-here-eq0, else-here-eq0-via-then-here-eq0+else-new-ne0, else-here-eq0-via-else-here-eq0}
 
-pub overflow-cast-result : goal.overflow-cast-result
-overflow-cast-result g c = omega (arith, ones-le 64 c.filled_places-new.result c.filled_places-new.type_inv)
+pub overflow_cast-result : goal.overflow_cast-result
+overflow_cast-result g c = omega (arith, ones-le 64 c.filled_places-new.result c.filled_places-new.type_inv)
 
 pub returns : goal.returns
 returns g c =

@@ -44,7 +44,7 @@ returns g c =
     let s = c.args.tree.now in
     let t = c.requires.sound in
     let x = g.X.LevelMasks.word c.args.x.now in
-    let z = c.in-default.ensures.bits.0 in
+    let z = c.in_default.ensures.bits.0 in
     record {
       groups = omega (arith, c.loop-i.invariant.0, sum_end c.loop-i.top (adds_group s x) z, groups_sum s t x);
       blocks = omega (arith, c.loop-i.invariant.1, sum_end c.loop-i.top (adds_blocks s x) z, blocks_sum s t x);

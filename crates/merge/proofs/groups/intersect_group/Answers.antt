@@ -30,4 +30,4 @@ loop-j-preserved g c =
     both bit_and x _ _ _ _ _ _ c.loop-j.invariant (one_word bit_and x i j s _ p c.and_block.ensures.lent) (place_there _ _ _ h i) (place_gone _ _ _ h i)
 
 pub returns : goal.returns
-returns g c = repicked bit_and (g.X.LevelMasks.word c.args.x.now) _ _ _ _ (places_end c.args.i _ c.in-default.ensures.bits.0) c.loop-j.invariant
+returns g c = repicked bit_and (g.X.LevelMasks.word c.args.x.now) _ _ _ _ (places_end c.args.i _ c.in_default.ensures.bits.0) c.loop-j.invariant

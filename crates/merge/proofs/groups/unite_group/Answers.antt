@@ -58,4 +58,4 @@ loop-j-preserved g c =
     both bit_or x _ _ _ _ _ _ c.loop-j.invariant (no_word bit_or x i j s c.loop-j.invariant.sound (ap (bit_or (word s i j)) n ∙ or_zero_r (word s i j))) (place_there _ _ _ h i) (place_gone _ _ _ h i)
 
 pub returns : goal.returns
-returns g c = repicked bit_or (g.X.LevelMasks.word c.args.x.now) _ _ _ _ (places_end c.args.i _ c.in-default.ensures.bits.0) c.loop-j.invariant
+returns g c = repicked bit_or (g.X.LevelMasks.word c.args.x.now) _ _ _ _ (places_end c.args.i _ c.in_default.ensures.bits.0) c.loop-j.invariant
