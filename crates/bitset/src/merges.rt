@@ -1,7 +1,8 @@
 //! The set united with an operand, or cut to it, in place.
 ghost use Rattle.std.specs.Prelude.{◌≡◌, true};
 ghost use Rattle.roll.specs.Members.{members};
-ghost use Rattle.roll.specs.Roll.{answer, after, refuses, Unite, Intersect};
+ghost use Rattle.roll.specs.Roll.{refuses};
+ghost use Rattle.roll.specs.Merges.{merge_answer, merge_after, Unite, Intersect};
 ghost use Rattle.roll.specs.Answers.{outcome};
 ghost use Rattle.tree.specs.Steps.{Lent};
 ghost use Rattle.bitset.specs.Sets.{Sound, roll_of};
@@ -16,10 +17,9 @@ impl<'a> BitSet<'a> {
     pub fn unite<X: LevelMasksIterExt>(&mut self, x: &X) -> Result<(), Refusal>
         requires sound { Sound self.old }
         requires operand { X.LevelMasks.ok x.now }
-        ensures answer { outcome result ≡ answer (roll_of self.old) (Unite (members (X.LevelMasks.word x.now))) }
-        ensures roll { roll_of self.new ≡ after (roll_of self.old) (Unite (members (X.LevelMasks.word x.now))) }
+        ensures answer { outcome result ≡ merge_answer (roll_of self.old) (Unite (members (X.LevelMasks.word x.now))) }
+        ensures roll { roll_of self.new ≡ merge_after (roll_of self.old) (Unite (members (X.LevelMasks.word x.now))) }
         ensures kept { refuses (outcome result) ≡ true → self.new ≡ self.old }
-        ensures same { x.now ≡ x.now }
         ensures sound { Sound self.new }
         ensures lent { Lent self.old.tree self.new.tree }
     {
@@ -32,8 +32,7 @@ impl<'a> BitSet<'a> {
     pub fn intersect<X: LevelMasksIterExt>(&mut self, x: &X)
         requires sound { Sound self.old }
         requires operand { X.LevelMasks.ok x.now }
-        ensures roll { roll_of self.new ≡ after (roll_of self.old) (Intersect (members (X.LevelMasks.word x.now))) }
-        ensures same { x.now ≡ x.now }
+        ensures roll { roll_of self.new ≡ merge_after (roll_of self.old) (Intersect (members (X.LevelMasks.word x.now))) }
         ensures sound { Sound self.new }
         ensures lent { Lent self.old.tree self.new.tree }
     {

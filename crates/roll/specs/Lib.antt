@@ -1,4 +1,5 @@
 pub mod Refusals
 pub mod Members
 pub mod Roll
+pub mod Merges
 pub mod Answers

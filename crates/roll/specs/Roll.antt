@@ -14,9 +14,6 @@ pub data Call : Type 0 where
   Insert : ℕ → Call
   InsertBlock : ℕ → ℕ → Call
   Remove : ℕ → Call
-  -- with an operand, by its members
-  Unite : (ℕ → Bool) → Call
-  Intersect : (ℕ → Bool) → Call
   Contains : ℕ → Call
   Used : Call
 
@@ -39,8 +36,6 @@ abbrev pub made : (ℕ → Bool) → Call → ℕ → Bool
 made M (Insert n) m = M m || m == n
 made M (InsertBlock s w) m = M m || in_block s w m
 made M (Remove n) m = M m && not (m == n)
-made M (Unite X) m = M m || X m
-made M (Intersect X) m = M m && X m
 made M (Contains n) m = M m
 made M Used m = M m
 
@@ -56,8 +51,6 @@ abbrev pub answer : Roll → Call → Answer
 answer r (Insert n) = cond (nat_lt n capacity) (fitting r.P r.Q (made r.has (Insert n))) (Refused 1)
 answer r (InsertBlock s w) = cond (w == 0) Done (cond (s % block_size == 0) (cond (nat_lt s starts_end) (fitting r.P r.Q (made r.has (InsertBlock s w))) (Refused 1)) (Refused 2))
 answer r (Remove n) = cond (nat_lt n capacity) (Told (r.has n)) (Refused 1)
-answer r (Unite X) = fitting r.P r.Q (made r.has (Unite X))
-answer r (Intersect X) = Done
 answer r (Contains n) = Told (r.has n)
 answer r Used = Counted (groups r.has) (blocks r.has)
 

@@ -2,9 +2,10 @@
 use Rattle.std.proofs.Common.{◌≡◌, ℕ, ◌%◌, Bool, true, false, cond, not, ◌&&◌, ◌||◌, eqb, ltb, leb, List, [], ◌∷◌, sym, refl, ap, ◌∙◌, ⊎_elim}
 use Rattle.std.proofs.lemmas.Bool.{and_parts, or_cases, le-leb, eqb-true, both_ways}
 use Rattle.roll.specs.Members.{groups, blocks}
-use Rattle.roll.specs.Roll.{Roll, Answer, Done, Told, Refused, Insert, InsertBlock, Remove, Unite, Intersect, Contains, Used, nobody, in_block, fitting, answer, refuses}
+use Rattle.roll.specs.Roll.{Roll, Answer, Done, Told, Refused, Insert, InsertBlock, Remove, Contains, Used, nobody, in_block, fitting, answer, refuses}
+use Rattle.roll.specs.Merges.{Unite, Intersect, merge_answer}
 use Rattle.bitset.proofs.Digits.{block_none}
-use Rattle.runs.specs.Asks.{Ask, Ordered, Indices, Blocks, PileHas, PileIndices, reply, next, leaves}
+use Rattle.runs.specs.Asks.{Ask, Ordered, Merged, Indices, Blocks, PileHas, PileIndices, reply, next, leaves}
 use Rattle.runs.specs.Memory.{fits, no_room, MemoryRule}
 use Rattle.runs.proofs.Fewer.{Fewer, groups_most, blocks_most, fits_fewer, none_fits}
 
@@ -82,8 +83,8 @@ pub memory_rule : (r : Roll) (a : Ask) → fits r.P r.Q r.has ≡ true → Memor
 memory_rule r (Ordered (Insert n)) e = gain_rule r.P r.Q r.has _ e (ltb n 262144)
 memory_rule r (Ordered (InsertBlock s w)) e = block_rule r.P r.Q r.has _ e (eqb w 0) (eqb (s % 64) 0) (ltb s 262080) (none_more r.has s w)
 memory_rule r (Ordered (Remove n)) e = lose_rule r.P r.Q r.has _ e (ltb n 262144) (r.has n) (less r.has (λ m. not (eqb m n)))
-memory_rule r (Ordered (Unite X)) e = gain_rule r.P r.Q r.has _ e true
-memory_rule r (Ordered (Intersect X)) e = ap not (sym (fits_fewer r.P r.Q _ r.has (less r.has X) e))
+memory_rule r (Merged (Unite X)) e = gain_rule r.P r.Q r.has _ e true
+memory_rule r (Merged (Intersect X)) e = ap not (sym (fits_fewer r.P r.Q _ r.has (less r.has X) e))
 memory_rule r (Ordered (Contains n)) e = ap not (sym e)
 memory_rule r (Ordered Used) e = ap not (sym e)
 memory_rule r (Indices acts) e = ap not (sym e)
@@ -95,8 +96,8 @@ next_fits : (r : Roll) (a : Ask) → fits r.P r.Q r.has ≡ true → fits (next 
 next_fits r (Ordered (Insert n)) e = turned_fits r.P r.Q r.has _ e (answer r (Insert n)) (gained_fits r.P r.Q r.has _ e (ltb n 262144))
 next_fits r (Ordered (InsertBlock s w)) e = turned_fits r.P r.Q r.has _ e (answer r (InsertBlock s w)) (block_fits r.P r.Q r.has _ e (eqb w 0) (eqb (s % 64) 0) (ltb s 262080) (none_more r.has s w))
 next_fits r (Ordered (Remove n)) e = turned_fits r.P r.Q r.has _ e (answer r (Remove n)) (λ _. fits_fewer r.P r.Q _ r.has (less r.has (λ m. not (eqb m n))) e)
-next_fits r (Ordered (Unite X)) e = turned_fits r.P r.Q r.has _ e (answer r (Unite X)) (gained_fits r.P r.Q r.has _ e true)
-next_fits r (Ordered (Intersect X)) e = fits_fewer r.P r.Q _ r.has (less r.has X) e
+next_fits r (Merged (Unite X)) e = turned_fits r.P r.Q r.has _ e (merge_answer r (Unite X)) (gained_fits r.P r.Q r.has _ e true)
+next_fits r (Merged (Intersect X)) e = fits_fewer r.P r.Q _ r.has (less r.has X) e
 next_fits r (Ordered (Contains n)) e = e
 next_fits r (Ordered Used) e = e
 next_fits r (Indices acts) e = e

@@ -2,9 +2,10 @@
 -- the same are equal.
 use Rattle.std.proofs.Common.{◌≡◌, ℕ, ◌-◌, Bool, true, false, cond, List, [], ◌∷◌, length, sym, refl, ap, ◌∙◌}
 use mathlib.Core.Path.{fun_ext}
-use Rattle.roll.specs.Roll.{Roll, Unite, Intersect, answer, made, refuses}
+use Rattle.roll.specs.Roll.{Roll, answer, made, refuses}
+use Rattle.roll.specs.Merges.{Unite, Intersect, merge_answer, joint}
 use Rattle.bitset.proofs.Calls.{same_roll}
-use Rattle.runs.specs.Asks.{Ask, Ordered, Indices, Blocks, PileHas, PileIndices, next, leaves, new_roll}
+use Rattle.runs.specs.Asks.{Ask, Ordered, Merged, Indices, Blocks, PileHas, PileIndices, next, leaves, new_roll}
 use Rattle.runs.specs.SameAsks.{SameAsk, itself, unite, intersect, pile_has, pile_indices, SameAsks, none, more}
 
 cond_same : {X : Type 0} (f : Roll → X) (b : Bool) (r s : Roll) → f s ≡ f r → f (cond b r s) ≡ f r
@@ -15,6 +16,7 @@ cond_same f false r s e = e
 module _ {X : Type 0} (f : Roll → X) (keeps : (r : Roll) (M : ℕ → Bool) → f (record { has = M; P = r.P; Q = r.Q }) ≡ f r) where
   next_keeps : (r : Roll) (a : Ask) → f (next r a) ≡ f r
   next_keeps r (Ordered c) = cond_same f (refuses (answer r c)) r (record { has = made r.has c; P = r.P; Q = r.Q }) (keeps r (made r.has c))
+  next_keeps r (Merged c) = cond_same f (refuses (merge_answer r c)) r (record { has = joint r.has c; P = r.P; Q = r.Q }) (keeps r (joint r.has c))
   next_keeps r (Indices acts) = refl
   next_keeps r (Blocks acts) = refl
   next_keeps r (PileHas fill n) = refl
@@ -35,8 +37,8 @@ same_left u1 l1 u2 l2 x y eu el em =
 
 same_ask : {a b : Ask} → SameAsk a b → a ≡ b
 same_ask (itself a) = refl
-same_ask (unite X Y e) = ap (λ Z. Ordered (Unite Z)) (fun_ext e)
-same_ask (intersect X Y e) = ap (λ Z. Ordered (Intersect Z)) (fun_ext e)
+same_ask (unite X Y e) = ap (λ Z. Merged (Unite Z)) (fun_ext e)
+same_ask (intersect X Y e) = ap (λ Z. Merged (Intersect Z)) (fun_ext e)
 same_ask (pile_has F G n e) = ap (λ H. PileHas H n) (fun_ext (λ M. fun_ext (e M)))
 same_ask (pile_indices F G acts e) = ap (λ H. PileIndices H acts) (fun_ext (λ M. fun_ext (e M)))
 

@@ -1,6 +1,7 @@
 -- What may be asked of a set, and what the roll of members replies.
 use Rattle.std.specs.Prelude.{ℕ, ◌-◌, Bool, List, [], ◌∷◌, length, Option}
 use Rattle.roll.specs.Roll.{Roll, Call, Answer, Told, nobody, answer, after}
+use Rattle.roll.specs.Merges.{Merge, merge_answer, merge_after}
 use Rattle.walks.specs.declared.block_iter.DataBlock.{DataBlock}
 use Rattle.walks.specs.Indices.{listed, from}
 use Rattle.acts.specs.declared.Action.{Action}
@@ -10,6 +11,8 @@ use Rattle.acts.specs.Blocks.{filled, reaching}
 pub data Ask : Type 0 where
   -- a call of the set itself
   Ordered : Call → Ask
+  -- a call that takes an operand
+  Merged : Merge → Ask
   -- a walk over the set's indices, with any nexts and seeks
   Indices : List Action → Ask
   -- a walk over its nonempty blocks
@@ -34,14 +37,16 @@ block_answers M acts = answers reaching (filled M) (filled M) acts
 
 abbrev pub reply : Roll → Ask → Reply
 reply r (Ordered c) = Said (answer r c)
+reply r (Merged c) = Said (merge_answer r c)
 reply r (Indices acts) = Listed (index_answers r.has acts)
 reply r (Blocks acts) = Filled (block_answers r.has acts)
 reply r (PileHas fill n) = Said (Told (fill r.has n))
 reply r (PileIndices fill acts) = Listed (index_answers (fill r.has) acts)
 
--- only a call of the set itself changes the roll
+-- only the calls of the set change the roll
 abbrev pub next : Roll → Ask → Roll
 next r (Ordered c) = after r c
+next r (Merged c) = merge_after r c
 next r (Indices acts) = r
 next r (Blocks acts) = r
 next r (PileHas fill n) = r

@@ -2,10 +2,11 @@
 ghost use Rattle.std.specs.Prelude.{◌≡◌};
 ghost use Rattle.roll.specs.Members.{members};
 ghost use Rattle.roll.specs.Roll as rolls;
+ghost use Rattle.roll.specs.Merges as merges;
 ghost use Rattle.roll.specs.Answers.{outcome, found};
 ghost use Rattle.tree.specs.Steps.{Lent};
 ghost use Rattle.bitset.specs.Sets.{Sound, roll_of};
-ghost use Rattle.runs.specs.Asks.{Ask, Reply, Ordered, Said, reply, next};
+ghost use Rattle.runs.specs.Asks.{Ask, Reply, Ordered, Merged, Said, reply, next};
 
 use bitset::BitSet;
 use operands::bitset_interface::{LevelMasks, LevelMasksIterExt};
@@ -128,7 +129,7 @@ pub struct Unite<X>(pub X);
 impl<X: LevelMasksIterExt + Drop> Call for Unite<X> {
     type Answer = Result<(), Refusal>;
 
-    ghost asks = { λ c. Ordered (rolls.Unite (members (X.LevelMasks.word c.0))) };
+    ghost asks = { λ c. Merged (merges.Unite (members (X.LevelMasks.word c.0))) };
 
     ghost shown = { λ a. Said (outcome a) };
 
@@ -147,7 +148,7 @@ pub struct Intersect<X>(pub X);
 impl<X: LevelMasksIterExt + Drop> Call for Intersect<X> {
     type Answer = ();
 
-    ghost asks = { λ c. Ordered (rolls.Intersect (members (X.LevelMasks.word c.0))) };
+    ghost asks = { λ c. Merged (merges.Intersect (members (X.LevelMasks.word c.0))) };
 
     ghost shown = { λ _. Said rolls.Done };
 

@@ -114,8 +114,8 @@ impl<'a> Tree<'a> {
             self.fill_block(i, j, w);
             return;
         }
-        let joined = *self.data.at(c) | w;
-        self.data.put(c, joined);
+        let here = *self.data.at(c);
+        self.data.put(c, here | w);
     }
 
     /// Ors w, which is not 0, into word (i, j), or refuses where a pool is full and changes nothing.

@@ -3,7 +3,7 @@ use Rattle.std.proofs.Common.{◌≡◌, ℕ, ◌*◌, ◌^◌, ◌<◌, Bool, t
 use mathlib.Core.Path.{fun_ext}
 use lib.Bits.{bit_and}
 use Rattle.bits.specs.Sums.{total}
-use Rattle.roll.specs.Roll.{Roll, answer, fitting, made, Insert, Unite, Done, Refused}
+use Rattle.roll.specs.Roll.{Roll, answer, fitting, made, Insert, Done, Refused}
 use Rattle.walks.specs.Indices.{listed, sift}
 use Rattle.merge.specs.Merged.{groups_in, blocks_in}
 use Rattle.worked.proofs.Held.{Held, with_index, without_index, empty, put, gone, counted}

@@ -6,6 +6,7 @@ use Rattle.bits.specs.Indices.{offset}
 use Rattle.bits.proofs.Laws.{bit_of_zero}
 use Rattle.roll.specs.Members.{one}
 use Rattle.roll.specs.Roll.{Roll, Call, Answer, answer, after, refuses, made}
+use Rattle.roll.specs.Merges.{Merge, merge_answer, merge_after, joint}
 use Rattle.operands.specs.Combined.{joined}
 use Rattle.runs.specs.Asks.{Ask, Reply, reply, next, replies}
 use Rattle.worked.specs.Table.{asked, told}
@@ -16,6 +17,9 @@ then r c a = cond (refuses a) r (record { has = made r.has c; P = r.P; Q = r.Q }
 
 pub did : (r : Roll) (c : Call) (a : Answer) → answer r c ≡ a → after r c ≡ then r c a
 did r c a e = ap (then r c) e
+
+pub did_merge : (r : Roll) (c : Merge) (a : Answer) → merge_answer r c ≡ a → merge_after r c ≡ cond (refuses a) r (record { has = joint r.has c; P = r.P; Q = r.Q })
+did_merge r c a e = ap (λ b. cond (refuses b) r (record { has = joint r.has c; P = r.P; Q = r.Q })) e
 
 -- each ask has its reply, and leaves a roll by which the rest goes on
 abbrev pub Goes : Roll → List (Ask × Reply) → Type 0

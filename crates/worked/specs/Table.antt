@@ -4,13 +4,14 @@ use Rattle.bits.specs.Bit.{cut}
 use Rattle.bits.specs.Indices.{group, place, offset}
 use Rattle.bits.specs.Sums.{total}
 use Rattle.roll.specs.Members.{any, one}
-use Rattle.roll.specs.Roll.{nobody, Insert, Remove, Unite, Done, Told, Refused}
+use Rattle.roll.specs.Roll.{nobody, Insert, Remove, Done, Told, Refused}
+use Rattle.roll.specs.Merges.{Unite}
 use Rattle.operands.specs.Combined.{joined}
 use Rattle.walks.specs.declared.block_iter.DataBlock.{DataBlock}
 use Rattle.acts.specs.declared.Action.{Action}
 use Rattle.acts.specs.declared.Action.TheVariants.{Next, Seek}
 use Rattle.acts.specs.Blocks.{announced, word_of}
-use Rattle.runs.specs.Asks.{Ask, Reply, Ordered, Indices, Said, Listed, replies}
+use Rattle.runs.specs.Asks.{Ask, Reply, Ordered, Merged, Indices, Said, Listed, replies}
 
 -- the numbers of a list, as a test
 abbrev pub among : List ℕ → ℕ → Bool
@@ -94,7 +95,7 @@ shared n = joined bit_and n (n == 4096) (n == 4097)
 abbrev pub run2 : List (Ask × Reply)
 run2 =
     (Ordered (Insert 0), accepted)
-    ∷ (Ordered (Unite shared), accepted)
+    ∷ (Merged (Unite shared), accepted)
     ∷ (Indices (Next ∷ Next ∷ []), Listed (Some 0 ∷ None ∷ []))
     ∷ []
 

@@ -4,7 +4,8 @@ use lib.Bits.{bit_and, and_zero_l, and_zero_r}
 use Rattle.std.proofs.lemmas.Bool.{cases_eq, ne_eqb}
 use Rattle.bits.specs.Indices.{offset}
 use Rattle.roll.specs.Members.{one}
-use Rattle.roll.specs.Roll.{Insert, Remove, Unite, Done, Told, Refused, nobody, fitting}
+use Rattle.roll.specs.Roll.{Insert, Remove, Done, Told, Refused, nobody, fitting}
+use Rattle.roll.specs.Merges.{Unite}
 use Rattle.operands.specs.Combined.{joined}
 use Rattle.walks.specs.Indices.{from, listed}
 use Rattle.acts.specs.declared.Action.{Action}
@@ -12,7 +13,7 @@ use Rattle.acts.specs.declared.Action.TheVariants.{Next, Seek}
 use Rattle.acts.specs.Answers.{answers}
 use Rattle.runs.specs.Asks.{Said, Listed}
 use Rattle.worked.specs.Table.{run1, run2, shared}
-use Rattle.worked.proofs.Runs.{did, Goes, goes, nowhere}
+use Rattle.worked.proofs.Runs.{did, did_merge, Goes, goes, nowhere}
 use Rattle.worked.proofs.Counts.{rolled, m1, m2, m3, m4, m5, takes_5, takes_70, takes_5000, refuses_200, refuses_9000, takes_200, takes_0, walk, walk_0}
 use Rattle.worked.proofs.Xors.{emptied}
 use Rattle.worked.proofs.cases_hold.Goals as goal
@@ -157,7 +158,7 @@ second_run =
             (
               r,
               (
-                did (rolled zeroth 1 1) (Unite shared) Done e,
+                did_merge (rolled zeroth 1 1) (Unite shared) Done e,
                 (walked r.has (0 ∷ []) (Next ∷ Next ∷ []) (ap listed (members_stay zeroth) ∙ walk_0), (r, (refl, tt))),
               ),
             ),
