@@ -1,5 +1,6 @@
 //! Any list of nexts and seeks of a walk has one list of answers. The list is a type, so that asking it takes no memory.
 #![tactic(auto)]
+
 ghost use Rattle.std.specs.Prelude.{◌≡◌, ℕ, Bool, true, List, [], ◌∷◌, Option};
 ghost use Rattle.bits.specs.Places.{Taken};
 ghost use Rattle.roll.specs.Members.{members};

@@ -1,5 +1,6 @@
 //! Replays stored calls and answers of the Rust crate and counts the answers that differ.
 #![tactic(auto)]
+
 ghost use Rattle.std.specs.Prelude.{◌≤◌, length};
 ghost use Rattle.bitset.specs.Sets.{Sound};
 

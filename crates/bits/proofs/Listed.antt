@@ -1,9 +1,9 @@
 -- A word as the list of its one bits.
-use Rattle.std.proofs.Common.{◌≡◌, ℕ, zero, suc, ◌+◌, ◌<◌, ◌≤◌, Bool, true, false, cond, eqb, ◌⊎◌, List, [], ◌∷◌, sym, refl, ap, ◌∙◌, subst, inl, inr, arith, eq-eqb, ne_eqb}
-use Rattle.std.proofs.lemmas.Bool.{cases_lt, cases_eq}
+use Rattle.std.proofs.Common.{◌≡◌, ℕ, zero, suc, ◌+◌, ◌<◌, ◌≤◌, cond, eqb, [], ◌∷◌, sym, refl, ap, ◌∙◌, inl, inr, arith, eq-eqb, ne_eqb}
+use Rattle.std.proofs.lemmas.Bool.{cases_eq}
 use Rattle.bits.specs.Bit.{bit, Lost}
 use Rattle.bits.specs.Places.{scan, places}
-use Rattle.bits.proofs.Laws.{bit_of_zero, bit_lt}
+use Rattle.bits.proofs.Laws.{bit_of_zero}
 
 pub scan_one : (n k w : ℕ) → bit w k ≡ 1 → scan (suc n) k w ≡ k ∷ scan n (suc k) w
 unfolding scan

@@ -1,9 +1,9 @@
 -- The word with one bit alone, and a word with that bit set or cleared.
-use Rattle.std.proofs.Common.{◌≡◌, ℕ, zero, suc, ◌+◌, ◌-◌, ◌*◌, ◌/◌, ◌%◌, ◌^◌, ◌<◌, ◌≤◌, max, ◌≢◌, ◌⊎◌, sym, refl, ap, ◌∙◌, inl, inr, ⊎_elim, arith}
+use Rattle.std.proofs.Common.{◌≡◌, ℕ, zero, suc, ◌+◌, ◌-◌, ◌*◌, ◌%◌, ◌^◌, ◌<◌, ◌≤◌, max, ◌∙◌, ⊎_elim, arith}
 use lib.Bits.{bit_and, bit_or}
-use Rattle.std.proofs.lemmas.Bool.{cases_eq, cases_lt}
+use Rattle.std.proofs.lemmas.Bool.{cases_lt}
 use Rattle.bits.specs.Bit.{bit}
-use Rattle.bits.proofs.Laws.{bit_lt, bit_zero, bit_suc, bit_of_zero, bit_of_or, bit_of_and, bit_and_not, bit_mod, bit_shl_low, bit_shl_high, bit_past}
+use Rattle.bits.proofs.Laws.{bit_zero, bit_suc, bit_of_zero, bit_of_or, bit_of_and, bit_and_not, bit_mod, bit_shl_low, bit_shl_high, bit_past}
 use Rattle.bits.specs.Sums.{same}
 
 pub one_bit : (d : ℕ) → bit 1 d ≡ same d 0

@@ -1,5 +1,6 @@
 //! Words of 64 bits and the place of an index among them.
 #![tactic(auto)]
+
 ghost use Rattle.std.specs.Prelude.{◌≡◌};
 ghost use Rattle.bits.specs.Indices.{group, place, offset};
 

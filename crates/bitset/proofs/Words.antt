@@ -1,17 +1,17 @@
 -- From the merged words of a tree to the roll's answer and the roll after it.
-use Rattle.std.proofs.Common.{◌≡◌, ℕ, ◌-◌, ◌/◌, ◌%◌, ◌^◌, ◌<◌, min, max, Bool, true, false, cond, ◌&&◌, ◌||◌, eqb, ltb, leb, ◌⊎◌, sym, refl, ap, ◌∙◌, subst, ⊎_elim}
+use Rattle.std.proofs.Common.{◌≡◌, ℕ, ◌-◌, ◌/◌, ◌%◌, ◌^◌, ◌<◌, Bool, true, false, cond, ◌&&◌, ◌||◌, eqb, ltb, leb, sym, refl, ap, ◌∙◌, subst, ⊎_elim}
 use mathlib.Core.Path.{fun_ext}
 use lib.Bits.{bit_and, bit_or, or_lt}
 use Rattle.std.proofs.lemmas.Bool.{cases_Bool}
 use Rattle.bits.specs.Bit.{bit}
 use Rattle.bits.proofs.Laws.{bit_lt, bit_of_or, bit_of_and}
-use Rattle.roll.specs.Members.{groups, blocks, members}
+use Rattle.roll.specs.Members.{blocks, members}
 use Rattle.roll.specs.Roll.{Answer, Done, Refused, refuses, fitting}
 use Rattle.roll.specs.Merges.{Merge, Unite, Intersect, joint, merge_answer, merge_after}
 use Rattle.roll.proofs.Counts.{groups_words, blocks_words}
 use Rattle.tree.specs.declared.Tree.{Tree}
 use Rattle.tree.specs.Trees.{word, slots1, slots2, Sound}
-use Rattle.merge.specs.Merged.{Merged, all, united, groups_in, blocks_in, verdict}
+use Rattle.merge.specs.Merged.{Merged, all, united, groups_in, verdict}
 use Rattle.bitset.specs.Sets.{tree_roll}
 use Rattle.bitset.proofs.Digits.{or_test, and_test}
 use Rattle.bitset.proofs.Calls.{rolled, same_roll}

@@ -1,5 +1,6 @@
 //! The sparse coverage set: a set of indices below 262,144 over two lent pools.
 #![tactic(auto)]
+
 ghost use Rattle.std.specs.Prelude.{◌≡◌, true, nat_lt};
 ghost use Rattle.bits.specs.Indices.{capacity};
 ghost use Rattle.roll.specs.Roll.{answer, after, refuses, nobody, Insert, InsertBlock, Remove, Contains, Used, Told, Counted};

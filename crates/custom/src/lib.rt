@@ -1,5 +1,6 @@
 //! An operand and an operation of a user's own, written against the interfaces alone.
 #![tactic(auto)]
+
 ghost use Rattle.std.specs.Prelude.{◌≡◌, ℕ, ◌-◌, ◌^◌, false, bit_or};
 ghost use Rattle.custom.specs.Bands.{announced, banded};
 ghost use Rattle.custom.specs.Laws.{nor_bitwise, nor_covering};

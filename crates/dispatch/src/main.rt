@@ -1,5 +1,6 @@
 //! Runs a shift on the coverage set and tells each step.
 #![tactic(auto)]
+
 ghost use Rattle.std.specs.Prelude.{◌<◌, ◌≤◌, length, IfOk};
 ghost use Rattle.bitset.specs.Sets.{Sound};
 

@@ -1,5 +1,6 @@
 //! The steps of a shift, done on the coverage set.
 #![tactic(auto)]
+
 ghost use Rattle.bitset.specs.Sets.{Sound};
 ghost use Rattle.job.specs.Jobs.{Acts, said};
 ghost use Rattle.roll.specs.Answers.{outcome};

@@ -1,8 +1,6 @@
 -- What a union adds to a tree, group by group.
-use Rattle.std.proofs.Common.{◌≡◌, ℕ, ◌+◌, ◌-◌, ◌*◌, ◌^◌, ◌<◌, ◌≤◌, min, max, ◌⊎◌, sym, refl, ap, ◌∙◌, ⊎_elim, arith}
-use lib.Bits.{bit_or, or_zero_r}
+use Rattle.std.proofs.Common.{◌≡◌, ℕ, ◌+◌, ◌-◌, ◌^◌, ◌<◌, ◌≤◌, min, ap, ◌∙◌, arith}
 use lib.Count.{ones}
-use Rattle.std.proofs.lemmas.Bool.{cases_lt}
 use Rattle.bits.specs.Bit.{bit, Lost}
 use Rattle.bits.specs.Sums.{total, some}
 use Rattle.bits.proofs.Ones.{ones_total, ones_some}
@@ -10,7 +8,7 @@ use Rattle.bits.proofs.Totals.{total_same, total_sum, total_le}
 use Rattle.tree.specs.declared.Tree.{Tree}
 use Rattle.tree.specs.Trees.{node, word, row, group_count, block_count, Sound}
 use Rattle.merge.specs.Merged.{united, row_in, groups_in, blocks_in}
-use Rattle.merge.proofs.Queue.{left_of, sum_lost, sum_end, sum_start}
+use Rattle.merge.proofs.Queue.{left_of, sum_lost, sum_start}
 use Rattle.merge.proofs.Merging.{unannounced}
 use Rattle.merge.proofs.Union.{some_or, groups_most, blocks_most}
 

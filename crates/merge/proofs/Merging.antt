@@ -1,11 +1,11 @@
 -- Merges of picked words, put together.
-use Rattle.std.proofs.Common.{◌≡◌, ℕ, ◌<◌, ◌≤◌, Bool, true, false, cond, ◌&&◌, ◌||◌, eqb, ◌≢◌, ◌⊎◌, sym, refl, ap, ◌∙◌, inl, inr, ⊎_elim, arith}
+use Rattle.std.proofs.Common.{◌≡◌, ℕ, ◌<◌, ◌≤◌, Bool, true, false, cond, ◌||◌, eqb, sym, refl, ap, ◌∙◌, ⊎_elim, arith}
 use Rattle.std.proofs.lemmas.Bool.{cases_Bool, cond-true, cond-false, eqb-true, eqb-false, and_parts, and_cases, or_right, cases_lt}
 use Rattle.bits.specs.Bit.{bit}
 use Rattle.tree.specs.declared.Tree.{Tree}
 use Rattle.tree.specs.Trees.{word, Sound}
 use Rattle.tree.specs.Steps.{Put, Lent}
-use Rattle.merge.specs.Merged.{Merged, merged}
+use Rattle.merge.specs.Merged.{Merged}
 use Rattle.merge.proofs.Queue.{at, gone_places, gone_groups}
 
 module _ (f : ℕ → ℕ → ℕ) (x : ℕ → ℕ → ℕ) where

@@ -1,15 +1,15 @@
 -- The words of a union: how many there are, and that there is room for each on the way.
-use Rattle.std.proofs.Common.{◌≡◌, ℕ, ◌+◌, ◌-◌, ◌*◌, ◌<◌, ◌≤◌, min, max, Bool, true, false, cond, leb, ◌⊎◌, sym, refl, ap, ◌∙◌, ⊎_elim, arith}
-use lib.Bits.{bit_and, bit_or, or_add_and, and_le_l, and_le_r}
+use Rattle.std.proofs.Common.{◌≡◌, ℕ, ◌-◌, ◌<◌, ◌≤◌, max, Bool, true, false, cond, leb, sym, ap, ◌∙◌, ⊎_elim, arith}
+use lib.Bits.{bit_or, or_add_and, and_le_l, and_le_r}
 use Rattle.std.proofs.lemmas.Bool.{cases_Bool, cases_lt, both_ways, le-leb, lt-leb, cond-true, cond-false}
-use Rattle.bits.specs.Sums.{total, some}
+use Rattle.bits.specs.Sums.{some}
 use Rattle.bits.proofs.Totals.{total_same, totals_same, total_le, total_gap, totals_gap, total_at, total_most}
 use Rattle.roll.specs.Roll.{Done, Refused, refuses}
 use Rattle.tree.specs.declared.Tree.{Tree}
-use Rattle.tree.specs.Trees.{slots1, slots2, word, row, group_count, block_count, Sound}
-use Rattle.tree.specs.Steps.{groups_with, blocks_with, room}
+use Rattle.tree.specs.Trees.{slots1, slots2, word, row, Sound}
+use Rattle.tree.specs.Steps.{room}
 use Rattle.tree.proofs.Room.{room_done}
-use Rattle.merge.specs.Merged.{Merged, merged, united, row_in, groups_in, blocks_in, verdict}
+use Rattle.merge.specs.Merged.{Merged, united, row_in, groups_in, blocks_in, verdict}
 
 -- a union is above 0 where one of the two is
 pub some_or : (a b : ℕ) → some (bit_or a b) ≡ max (some a) (some b)

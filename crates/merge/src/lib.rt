@@ -1,5 +1,6 @@
 //! A tree merged with an operand, in place: united with it, or cut to it.
 #![tactic(auto)]
+
 ghost use Rattle.std.specs.Prelude.{◌≡◌, true, false, bit_and, bit_or};
 ghost use Rattle.roll.specs.Roll.{refuses};
 ghost use Rattle.roll.specs.Answers.{outcome};

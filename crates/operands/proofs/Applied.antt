@@ -1,10 +1,10 @@
 -- The rules of a combination, from the laws of its operation and the rules of its operands.
-use Rattle.std.proofs.Common.{◌≡◌, ℕ, ◌^◌, ◌<◌, ◌≤◌, Bool, true, false, cond, ◌&&◌, ltb, ◌⊎◌, sym, refl, ap, ◌∙◌, subst, inl, inr, arith, le-ltb, lt-ltb}
+use Rattle.std.proofs.Common.{◌≡◌, ℕ, ◌<◌, ◌≤◌, Bool, true, false, cond, ◌&&◌, sym, refl, ap, ◌∙◌, inl, inr, arith, le-ltb, lt-ltb}
 use borrow.Author.Tests.{clash}
 use Rattle.std.proofs.lemmas.Bool.{cases_lt}
 use Rattle.bits.specs.Bit.{bit}
 use Rattle.bits.proofs.Laws.{bit_of_zero, bit_past}
-use Rattle.bits.proofs.Low.{low_lt, low_one}
+use Rattle.bits.proofs.Low.{low_one}
 use Rattle.ops.specs.Laws.{Word, Tells, Closed, Covering, Exact}
 use Rattle.operands.specs.Ruled.{Ruled}
 use Rattle.operands.specs.Combined.{within}

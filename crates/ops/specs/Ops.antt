@@ -1,9 +1,8 @@
 -- The laws of the four operations.
-use Rattle.std.specs.Prelude.{◌≡◌, Bool, ℕ, ◌-◌, ◌^◌, ◌<◌}
+use Rattle.std.specs.Prelude.{Bool, ◌-◌, ◌^◌, ◌<◌}
 use Rattle.std.proofs.Common.{arith}
 use Rattle.std.specs.Int.Bits.{bit_and, bit_or, bit_xor, or_add_and, xor_add_and}
 use Rattle.std.proofs.lemmas.Nat.{or_lt, xor_lt, and_le_l, and_le_r}
-use Rattle.bits.specs.Bit.{bit}
 use Rattle.bits.proofs.Laws.{bit_of_and, bit_of_or, bit_of_xor, bit_and_not, bit_lt}
 use Rattle.ops.specs.Laws.{Closed, Bitwise, Covering, Exact}
 

@@ -1,5 +1,6 @@
 //! Operations on the words of two operands, and the laws that let them be combined.
 #![tactic(auto)]
+
 ghost use Rattle.std.specs.Prelude.{◌≡◌, Bool, true, false, ℕ, ◌-◌, ◌^◌};
 ghost use Rattle.std.specs.Int.Bits.{bit_and, bit_or, bit_xor};
 ghost use Rattle.ops.specs.Laws.{Closed, Bitwise, Covering, Exact};

@@ -1,5 +1,5 @@
 -- Level-1 blocks whose slot numbers are all 0.
-use Rattle.std.proofs.Common.{◌≡◌, ℕ, ◌<◌, length, get_or, replicate, sym, refl, ap, ◌∙◌, arith}
+use Rattle.std.proofs.Common.{◌≡◌, ℕ, ◌<◌, length, get_or, replicate, sym, ap, ◌∙◌, arith}
 use Rattle.std.proofs.lemmas.List.{ext_get_or, get_or-replicate, length-replicate}
 use Rattle.pool.specs.declared.block.Block.{Block}
 use Rattle.pool.specs.Kinds.{level1_kind}

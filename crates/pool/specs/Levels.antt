@@ -1,5 +1,5 @@
 -- The same of a `Level`, for contracts.
-use Rattle.std.specs.Prelude.{◌≡◌, ℕ, Bool, true, false, cond, List, length, Some, None, Option, ◌==◌, nat_lt, slice_set}
+use Rattle.std.specs.Prelude.{◌≡◌, ℕ, Bool, true, false, cond, length, Some, None, Option, ◌==◌, nat_lt, slice_set}
 use Rattle.pool.specs.declared.level.Level.{Level}
 use Rattle.pool.specs.Kinds.{Kind}
 use Rattle.pool.specs.Pool.{Sound, Took, Gave}

@@ -3,10 +3,10 @@ ghost use Rattle.roll.specs.Roll as rolls;
 ghost use Rattle.runs.specs.Asks as asked;
 
 use super::piles::{Asker, Pile};
+use acts::{Acts, indices_of};
 use bitset::BitSet;
 use operands::bitset_interface::{LevelMasksIterExt, contains};
 use runs::calls::Call;
-use acts::{Acts, indices_of};
 use view::View;
 
 // Whether a pile has an index.

@@ -2,9 +2,9 @@
 //! masks too, which may announce empty blocks.
 ghost use Rattle.runs.specs.Asks as asked;
 
+use acts::{Acts, blocks_of, indices_of};
 use bitset::BitSet;
 use runs::calls::Call;
-use acts::{Acts, blocks_of, indices_of};
 use view::View;
 use walks::block_iter::DataBlock;
 

@@ -1,7 +1,7 @@
 -- Whether a set has one of the n indices from a on.
-use Rattle.std.proofs.Common.{◌≡◌, ℕ, zero, suc, ◌+◌, ◌<◌, ◌≤◌, Bool, true, false, cond, ◌||◌, ◌≢◌, ◌⊎◌, sym, refl, ap, ◌∙◌, inl, inr, ⊎_elim, arith}
+use Rattle.std.proofs.Common.{◌≡◌, ℕ, zero, suc, ◌+◌, ◌<◌, Bool, true, false, ◌≢◌, sym, refl, ap, ◌∙◌, ⊎_elim, arith}
 use Rattle.std.proofs.lemmas.Bool.{cases_eq, cases_Bool, or_cases, or_left, or_right, both_ways}
-use Rattle.roll.specs.Members.{any, one}
+use Rattle.roll.specs.Members.{any}
 
 -- one of them is there
 pub any_true : (M : ℕ → Bool) (a n : ℕ) → any M a n ≡ true → (k : ℕ) × ((k < n) × (M (a + k) ≡ true))

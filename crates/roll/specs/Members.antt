@@ -1,5 +1,5 @@
 -- A set of indices as a test, and how many of its groups and blocks are not empty.
-use Rattle.std.specs.Prelude.{ℕ, zero, suc, ◌+◌, ◌*◌, Bool, true, false, cond, ◌&&◌, ◌||◌, ◌==◌, nat_lt}
+use Rattle.std.specs.Prelude.{ℕ, zero, suc, ◌+◌, ◌*◌, Bool, false, cond, ◌&&◌, ◌||◌, ◌==◌, nat_lt}
 use Rattle.bits.specs.Bit.{bit}
 use Rattle.bits.specs.Sums.{total}
 use Rattle.bits.specs.Indices.{capacity, group_size, block_size, group, place, offset}

@@ -1,5 +1,6 @@
 //! What the set answers by: the refusals and, in specs/, the roll of members.
 #![tactic(auto)]
+
 ghost use Rattle.std.specs.Prelude.{◌≡◌};
 ghost use Rattle.roll.specs.Refusals.{number, phrase};
 

@@ -1,4 +1,5 @@
 //! Lists of calls, with the answers that they get.
+use acts::{Stop, ThenNext, ThenSeek};
 use ops::{Or, Sub};
 use pool::block::Block;
 use questions::pile_calls::{InPile, PileWalk};
@@ -8,7 +9,6 @@ use roll::Refusal;
 use runs::calls::{Contains, Insert, InsertBlock, Intersect, Remove, Unite, Used};
 use runs::laws::{after_list, alike, next_call};
 use runs::script::{Finish, Then};
-use acts::{Stop, ThenNext, ThenSeek};
 use view::View;
 
 // what a slice may hold before it is lent

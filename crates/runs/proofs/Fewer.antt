@@ -1,7 +1,6 @@
 -- Fewer members have no more groups and blocks, and no members have more than 64 and 4,096.
 use Rattle.std.proofs.Common.{◌≡◌, ℕ, ◌+◌, ◌*◌, ◌≤◌, Bool, true, false, leb, refl, arith}
 use Rattle.std.proofs.lemmas.Bool.{and_from, and_parts, le-leb, leb-true, both_ways}
-use Rattle.bits.specs.Sums.{total}
 use Rattle.bits.proofs.Totals.{total_le, total_most}
 use Rattle.roll.specs.Members.{any, one, groups, blocks}
 use Rattle.roll.proofs.Any.{any_true, any_from, any_none}

@@ -1,5 +1,6 @@
 //! Any list of nexts and seeks of a walk over members has one list of answers, which depends on the members alone.
 #![tactic(auto)]
+
 ghost use Rattle.std.specs.Prelude.{◌≡◌, ℕ, Bool, List, IfOk};
 ghost use Rattle.bits.specs.Places.{Taken};
 ghost use Rattle.roll.specs.Members.{members};

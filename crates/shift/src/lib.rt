@@ -1,5 +1,6 @@
 // Reads one line of a shift file: what a snow groomer did, as a step.
 #![tactic(auto)]
+
 ghost use Rattle.shift.specs.Fields.{Amiss};
 ghost use Rattle.shift.specs.Lines.{Fault, Says, wording};
 ghost use Rattle.shift.specs.Words.{due, spelling};

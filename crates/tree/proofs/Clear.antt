@@ -1,25 +1,25 @@
 -- A block gives its slot back, and a group.
-use Rattle.std.proofs.Common.{◌≡◌, ℕ, zero, suc, ◌+◌, ◌-◌, ◌^◌, ◌<◌, ◌≤◌, max, Bool, true, false, cond, ◌≢◌, ◌⊎◌, length, get_or, set, sym, refl, ap, ◌∙◌, inl, inr, ⊎_elim, arith, length-set, get_or-set_other, get_or-set_same}
-use Rattle.std.proofs.lemmas.Bool.{cases_eq, cases_lt, both_ways}
+use Rattle.std.proofs.Common.{◌≡◌, ℕ, ◌+◌, ◌-◌, ◌^◌, ◌<◌, ◌≢◌, length, get_or, set, sym, ap, ◌∙◌, ⊎_elim, arith, length-set, get_or-set_other, get_or-set_same}
+use Rattle.std.proofs.lemmas.Bool.{cases_eq}
 use Rattle.bits.specs.Bit.{bit}
 use Rattle.bits.proofs.Laws.{bit_of_zero}
 use Rattle.pool.specs.declared.block.Block.{Block}
 use Rattle.pool.specs.Levels.{Wrote}
-use Rattle.pool.specs.Pool.{Gave, tally}
+use Rattle.pool.specs.Pool.{Gave}
 use Rattle.pool.specs.Kinds.{level1_kind, data_kind}
 use Rattle.pool.proofs.Nodes.{clean_node}
-use Rattle.pool.proofs.Chains.{sound_same, sound_write}
+use Rattle.pool.proofs.Chains.{sound_same}
 use Rattle.pool.proofs.Writes.{wrote_length}
-use Rattle.bits.specs.Sums.{total, some, same}
+use Rattle.bits.specs.Sums.{some, same}
 use Rattle.tree.specs.Trees.{held_by}
-use Rattle.tree.specs.Trees.{slot1, node, slot2, word, count1, count2, used1, used2, Shape}
+use Rattle.tree.specs.Trees.{slot1, node, slot2, word, count1, count2, Shape}
 use Rattle.tree.specs.Steps.{Cleared, Shrunk}
 use Rattle.tree.specs.declared.Tree.{Tree}
-use Rattle.bits.proofs.Totals.{total_same, total_change, total_most, totals_same}
-use Rattle.tree.proofs.Held.{held_less, held_same, held_not}
-use Rattle.tree.proofs.Facts.{slot0, node0, word0, named1, named2, inner1, inner2, tally2, within2, apart1, apart2}
+use Rattle.bits.proofs.Totals.{total_change}
+use Rattle.tree.proofs.Held.{held_less, held_same}
+use Rattle.tree.proofs.Facts.{slot0, apart1, apart2}
 use Rattle.tree.proofs.Grow.{nodes_count}
-use Rattle.tree.proofs.Entry.{entry_here, entry_there, entry_wide, entry_count, entry_count1, entry_used, entry_holds1, entry_fits, entry_top, entry_middle}
+use Rattle.tree.proofs.Entry.{entry_here, entry_there, entry_wide, entry_count, entry_count1, entry_holds1, entry_fits, entry_top, entry_middle}
 use Rattle.tree.proofs.Facts.{cases_pair}
 use Rattle.tree.proofs.Grow.{nodes_words}
 

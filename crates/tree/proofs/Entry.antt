@@ -1,14 +1,14 @@
 -- One entry of a group's block is written, with its mask.
-use Rattle.std.proofs.Common.{◌≡◌, ℕ, zero, suc, ◌+◌, ◌-◌, ◌^◌, ◌<◌, ◌≤◌, max, ◌≢◌, ◌⊎◌, length, get_or, set, sym, refl, ap, ◌∙◌, inl, inr, ⊎_elim, arith, length-set, get_or-set_other, get_or-set_same}
-use Rattle.std.proofs.lemmas.Bool.{cases_eq, cases_lt}
+use Rattle.std.proofs.Common.{◌≡◌, ℕ, ◌+◌, ◌^◌, ◌<◌, ◌≢◌, length, get_or, set, sym, ap, ◌∙◌, ⊎_elim, arith, length-set, get_or-set_other, get_or-set_same}
+use Rattle.std.proofs.lemmas.Bool.{cases_eq}
 use Rattle.bits.specs.Bit.{bit}
 use Rattle.pool.specs.declared.block.Block.{Block}
 use Rattle.pool.specs.Levels.{Wrote, Holds}
-use Rattle.pool.specs.Kinds.{level1_kind, data_kind}
+use Rattle.pool.specs.Kinds.{level1_kind}
 use Rattle.pool.proofs.Chains.{sound_write, sound_same}
 use Rattle.bits.specs.Sums.{total, some, same}
 use Rattle.tree.specs.Trees.{held_by}
-use Rattle.tree.specs.Trees.{slot1, node, slot2, word, count1, count2, used1, used2, Shape}
+use Rattle.tree.specs.Trees.{slot1, node, slot2, count1, count2, used2, Shape}
 use Rattle.tree.specs.declared.Tree.{Tree}
 use Rattle.bits.proofs.Totals.{totals_change}
 use Rattle.tree.proofs.Held.{held_same}

@@ -1,10 +1,10 @@
 -- What follows from the shape of a tree.
-use Rattle.std.proofs.Common.{◌≡◌, ℕ, zero, suc, ◌+◌, ◌-◌, ◌<◌, ◌≤◌, Bool, true, false, cond, ◌≢◌, ◌⊎◌, length, get_or, replicate, sym, refl, ap, ◌∙◌, inl, inr, ⊎_elim, arith}
+use Rattle.std.proofs.Common.{◌≡◌, ℕ, ◌+◌, ◌<◌, ◌≤◌, true, ◌≢◌, ◌⊎◌, length, get_or, replicate, ap, ◌∙◌, inl, inr, ⊎_elim, arith}
 use Rattle.std.proofs.lemmas.List.{get_or_past, get_or-replicate}
 use Rattle.std.proofs.lemmas.Bool.{cases_eq, cases_lt}
 use Rattle.pool.proofs.Chains.{held_inside}
-use Rattle.pool.specs.Kinds.{level1_kind, data_kind}
-use Rattle.bits.specs.Sums.{total, some, same}
+use Rattle.pool.specs.Kinds.{level1_kind}
+use Rattle.bits.specs.Sums.{same}
 use Rattle.tree.specs.Trees.{held_by}
 use Rattle.tree.specs.Trees.{slot1, node, slot2, word, count1, count2, used1, used2, Shape}
 use Rattle.tree.specs.declared.Tree.{Tree}

@@ -1,21 +1,21 @@
 -- A block is given a slot; a word is stored.
-use Rattle.std.proofs.Common.{◌≡◌, ℕ, zero, suc, ◌+◌, ◌-◌, ◌^◌, ◌<◌, ◌≤◌, max, Bool, true, false, cond, ◌≢◌, ◌⊎◌, length, get_or, set, sym, refl, ap, ◌∙◌, inl, inr, ⊎_elim, arith, length-set, get_or-set_other, get_or-set_same}
-use Rattle.std.proofs.lemmas.Bool.{cases_eq, cases_lt, both_ways}
+use Rattle.std.proofs.Common.{◌≡◌, ℕ, ◌+◌, ◌^◌, ◌<◌, ◌≤◌, max, ◌≢◌, length, get_or, set, sym, refl, ap, ◌∙◌, ⊎_elim, arith, length-set, get_or-set_other, get_or-set_same}
+use Rattle.std.proofs.lemmas.Bool.{cases_eq, both_ways}
 use Rattle.bits.specs.Bit.{bit}
 use Rattle.pool.specs.declared.block.Block.{Block}
 use Rattle.pool.specs.Levels.{Wrote}
-use Rattle.pool.specs.Pool.{Got, tally}
-use Rattle.pool.specs.Kinds.{level1_kind, data_kind}
+use Rattle.pool.specs.Pool.{Got}
+use Rattle.pool.specs.Kinds.{data_kind}
 use Rattle.pool.proofs.Chains.{sound_same, sound_write}
 use Rattle.pool.proofs.Writes.{wrote_length}
 use Rattle.bits.specs.Sums.{total, some, same}
 use Rattle.tree.specs.Trees.{held_by}
-use Rattle.tree.specs.Trees.{slot1, node, slot2, word, count1, count2, used1, used2, Shape}
+use Rattle.tree.specs.Trees.{slot1, node, slot2, word, count1, count2, Shape}
 use Rattle.tree.specs.Steps.{Filled, Stored}
 use Rattle.tree.specs.declared.Tree.{Tree}
-use Rattle.bits.proofs.Totals.{total_same, total_change, total_most, totals_same}
+use Rattle.bits.proofs.Totals.{total_most}
 use Rattle.tree.proofs.Held.{held_more, held_same, held_not}
-use Rattle.tree.proofs.Facts.{word0, named2, inner1, inner2, tally2, within2, apart2}
+use Rattle.tree.proofs.Facts.{word0, named2, tally2, within2, apart2}
 use Rattle.tree.proofs.Grow.{nodes_count}
 use Rattle.tree.proofs.Facts.{cases_pair}
 use Rattle.tree.proofs.Entry.{entry_here, entry_there, entry_wide, entry_count, entry_count1, entry_used, entry_holds1, entry_fits, entry_top, entry_middle}

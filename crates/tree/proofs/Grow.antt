@@ -1,19 +1,19 @@
 -- A group is given a slot.
-use Rattle.std.proofs.Common.{◌≡◌, ℕ, zero, suc, ◌+◌, ◌-◌, ◌<◌, ◌≤◌, max, Bool, true, false, cond, ◌≢◌, ◌⊎◌, length, get_or, set, sym, refl, ap, ◌∙◌, inl, inr, ⊎_elim, arith, length-set, get_or-set_other, get_or-set_same}
-use Rattle.std.proofs.lemmas.Bool.{cases_eq, cases_lt, both_ways}
+use Rattle.std.proofs.Common.{◌≡◌, ℕ, ◌+◌, ◌<◌, ◌≤◌, max, ◌≢◌, length, get_or, set, sym, refl, ap, ◌∙◌, ⊎_elim, arith, length-set, get_or-set_other, get_or-set_same}
+use Rattle.std.proofs.lemmas.Bool.{cases_eq, both_ways}
 use Rattle.bits.specs.Bit.{bit}
 use Rattle.pool.specs.declared.block.Block.{Block}
-use Rattle.pool.specs.Pool.{Got, tally}
-use Rattle.pool.specs.Kinds.{level1_kind, data_kind}
+use Rattle.pool.specs.Pool.{Got}
+use Rattle.pool.specs.Kinds.{level1_kind}
 use Rattle.pool.proofs.Chains.{sound_same}
-use Rattle.bits.specs.Sums.{total, some, same}
+use Rattle.bits.specs.Sums.{some, same}
 use Rattle.tree.specs.Trees.{held_by}
-use Rattle.tree.specs.Trees.{slot1, node, slot2, word, count1, count2, used1, used2, Shape}
+use Rattle.tree.specs.Trees.{slot1, node, slot2, word, count1, count2, used1, Shape}
 use Rattle.tree.specs.Steps.{Grown}
 use Rattle.tree.specs.declared.Tree.{Tree}
-use Rattle.bits.proofs.Totals.{total_same, total_change, total_most, totals_same}
+use Rattle.bits.proofs.Totals.{total_change, total_most, totals_same}
 use Rattle.tree.proofs.Held.{held_more, held_same, held_not}
-use Rattle.tree.proofs.Facts.{node0, named1, inner1, tally1}
+use Rattle.tree.proofs.Facts.{node0, named1, tally1}
 
 -- where each group's block is as it was, so are the data slots' counts
 pub nodes_count : (s s' : Tree) → ((a : ℕ) → node s' a ≡ node s a) → (k : ℕ) → count2 s' k ≡ count2 s k

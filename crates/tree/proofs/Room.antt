@@ -1,12 +1,11 @@
 -- Whether there is room for a block: the answer from the counts, and the counts from the answer.
-use Rattle.std.proofs.Common.{◌≡◌, ℕ, ◌+◌, ◌-◌, ◌<◌, ◌≤◌, Bool, true, false, cond, ltb, leb, ◌≢◌, ◌⊎◌, length, sym, refl, ap, ◌∙◌, inl, inr, ⊎_elim, arith}
-use Rattle.std.proofs.lemmas.Bool.{cases_lt, le-leb, lt-leb, leb-true, lt-ltb, le-ltb, both_ways}
-use Rattle.bits.specs.Sums.{some}
+use Rattle.std.proofs.Common.{◌≡◌, ℕ, ◌+◌, ◌-◌, ◌<◌, ◌≤◌, true, false, cond, ltb, leb, length, sym, ap, ◌∙◌, ⊎_elim, arith}
+use Rattle.std.proofs.lemmas.Bool.{cases_lt, le-leb, lt-leb, lt-ltb, le-ltb, both_ways}
 use Rattle.roll.specs.Roll.{Done, Refused, refuses}
-use Rattle.tree.specs.Trees.{slots1, slots2, slot1, slot2, word, row, group_count, block_count, used1, used2, Shape, Tight, Sound}
+use Rattle.tree.specs.Trees.{slots1, slots2, slot1, slot2, group_count, block_count, Sound}
 use Rattle.tree.specs.Steps.{groups_with, blocks_with, room}
 use Rattle.tree.specs.declared.Tree.{Tree}
-use Rattle.tree.proofs.Facts.{word0, tally1, tally2}
+use Rattle.tree.proofs.Facts.{tally1, tally2}
 use Rattle.tree.proofs.Whole.{used_groups, used_blocks}
 
 -- a test below n, as a test up to n - 1

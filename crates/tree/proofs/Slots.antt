@@ -1,5 +1,5 @@
 -- What becomes of each slot, from what the calls keep.
-use Rattle.std.proofs.Common.{◌≡◌, ℕ, zero, suc, ◌+◌, ◌-◌, ◌*◌, ◌/◌, ◌%◌, ◌<◌, ◌≤◌, min, Bool, true, false, cond, eqb, ltb, ◌≢◌, length, get_or, sym, refl, ap, ◌∙◌, ⊎_elim, arith}
+use Rattle.std.proofs.Common.{◌≡◌, ℕ, zero, suc, ◌+◌, ◌*◌, ◌/◌, ◌%◌, ◌<◌, ◌≤◌, min, Bool, true, eqb, ltb, ◌≢◌, sym, refl, ap, ◌∙◌, ⊎_elim, arith}
 use Rattle.std.proofs.lemmas.Bool.{cases_lt, cases_eq, lt-ltb}
 use Rattle.std.proofs.lemmas.Bool.Decides.{nat_tests}
 use Rattle.bits.specs.Bit.{bit}
@@ -12,7 +12,7 @@ use Rattle.pool.specs.Kinds.{Kind}
 use Rattle.pool.specs.Pool.{tally}
 use Rattle.pool.specs.Levels.{Holds}
 use Rattle.pool.specs.declared.level.Level.{Level}
-use Rattle.tree.specs.Trees.{slot1, node, slot2, word, count1, count2, held_by, Shape, Tight, Sound}
+use Rattle.tree.specs.Trees.{slot1, slot2, word, count1, count2, held_by, Shape, Sound}
 use Rattle.tree.specs.Slots.{entry1, entry2, holders1, holders2, OnceEach, Stands}
 use Rattle.tree.specs.declared.Tree.{Tree}
 use Rattle.tree.proofs.Facts.{slot0, word0, tally1, tally2}

@@ -1,5 +1,5 @@
 -- A new tree.
-use Rattle.std.proofs.Common.{◌≡◌, ℕ, zero, suc, ◌+◌, ◌-◌, ◌<◌, ◌≤◌, Bool, true, false, cond, ◌≢◌, ◌⊎◌, length, get_or, replicate, sym, refl, ap, ◌∙◌, inl, inr, ⊎_elim, arith}
+use Rattle.std.proofs.Common.{◌≡◌, ℕ, ◌<◌, ◌≤◌, false, length, get_or, replicate, ap, ◌∙◌, ⊎_elim, arith}
 use Rattle.std.proofs.lemmas.List.{get_or_past, get_or-replicate, length-replicate}
 use Rattle.std.proofs.lemmas.Bool.{cases_lt}
 use Rattle.std.proofs.lemmas.Bool.Decides.{nat_tests}
@@ -11,7 +11,7 @@ use Rattle.pool.specs.Levels.{Holds}
 use Rattle.pool.proofs.Chains.{sound_same}
 use Rattle.bits.specs.Sums.{total, some, same}
 use Rattle.tree.specs.Trees.{held_by}
-use Rattle.tree.specs.Trees.{slot1, node, slot2, word, row, count1, count2, Shape, Tight, Sound}
+use Rattle.tree.specs.Trees.{slot1, node, slot2, word, row, count1, count2, Sound}
 use Rattle.tree.specs.declared.Tree.{Tree}
 use Rattle.bits.proofs.Totals.{total_most}
 

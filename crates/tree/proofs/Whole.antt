@@ -1,17 +1,16 @@
 -- Whole changes of a word, made of the steps.
-use Rattle.std.proofs.Common.{◌≡◌, ℕ, zero, suc, ◌+◌, ◌-◌, ◌^◌, ◌<◌, ◌≤◌, ◌≢◌, ◌⊎◌, length, get_or, set, sym, refl, ap, ◌∙◌, inl, inr, ⊎_elim, arith, length-set}
-use lib.Bits.{bit_and, bit_or, or_add_and, and_le_l, and_le_r}
+use Rattle.std.proofs.Common.{◌≡◌, ℕ, ◌+◌, ◌^◌, ◌<◌, ◌≤◌, ◌≢◌, length, get_or, refl, ap, ◌∙◌, ⊎_elim, arith}
+use lib.Bits.{bit_or, or_add_and, and_le_l}
 use lib.Count.{count_trailing_zeros}
 use Rattle.std.proofs.lemmas.Bool.{cases_eq, cases_lt}
-use Rattle.bits.specs.Bit.{bit}
 use Rattle.bits.proofs.Low.{low_one, low_lt}
 use Rattle.pool.specs.declared.block.Block.{Block}
-use Rattle.bits.specs.Sums.{total, some, same}
-use Rattle.tree.specs.Trees.{slot1, node, slot2, word, row, group_count, block_count, used1, used2, Shape, Tight, Sound}
+use Rattle.bits.specs.Sums.{some}
+use Rattle.tree.specs.Trees.{slot1, node, slot2, word, row, group_count, block_count, used1, used2, Tight, Sound}
 use Rattle.tree.specs.Steps.{Grown, Filled, Stored, Cleared, Shrunk, Put, groups_with, blocks_with}
 use Rattle.tree.specs.declared.Tree.{Tree}
 use Rattle.bits.proofs.Totals.{total_same, total_at, totals_same, total_some}
-use Rattle.tree.proofs.Facts.{word0, slot0, cases_pair, tally1, tally2}
+use Rattle.tree.proofs.Facts.{word0, cases_pair}
 use Rattle.tree.proofs.Grow.{nodes_words}
 use Rattle.tree.proofs.Clear.{under, bare}
 

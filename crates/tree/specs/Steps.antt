@@ -1,5 +1,5 @@
 -- What the steps of a change leave of a tree s: the tree s'.
-use Rattle.std.specs.Prelude.{◌≡◌, ℕ, ◌+◌, ◌-◌, ◌<◌, ◌≤◌, cond, ◌≢◌, length, nat_le}
+use Rattle.std.specs.Prelude.{◌≡◌, ℕ, ◌+◌, ◌-◌, ◌<◌, cond, ◌≢◌, length, nat_le}
 use Rattle.bits.specs.Sums.{some}
 use Rattle.roll.specs.Roll.{Answer, Done, Refused}
 use Rattle.tree.specs.Trees.{slots1, slots2, slot1, node, slot2, word, row, group_count, block_count, Shape, Sound}

@@ -1,5 +1,6 @@
 //! The three levels of the set: one level-0 block over a pool of level-1 blocks over a pool of words.
 #![tactic(auto)]
+
 ghost use Rattle.std.specs.Prelude.{◌≡◌, ℕ};
 ghost use Rattle.pool.specs.Kinds.{data_kind, level1_kind};
 ghost use Rattle.pool.specs.Levels.{Fresh};

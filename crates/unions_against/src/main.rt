@@ -1,6 +1,7 @@
 //! Replays stored calls of unite and intersect on four sets, with operands made of the other three, and
 //! counts the answers that differ from the Rust crate's.
 #![tactic(auto)]
+
 ghost use Rattle.bitset.specs.Sets.{Sound};
 ghost use Rattle.std.specs.Prelude.{◌<◌, ◌≤◌, length};
 

@@ -1,11 +1,10 @@
 -- The rules of a stored set: its masks are exact.
-use Rattle.std.proofs.Common.{◌≡◌, ℕ, ◌+◌, ◌-◌, ◌^◌, ◌<◌, ◌≤◌, true, ◌≢◌, ◌⊎◌, sym, refl, ap, ◌∙◌, ⊎_elim, arith}
+use Rattle.std.proofs.Common.{◌^◌, ◌<◌, ◌≤◌, true, ap, ⊎_elim, arith}
 use Rattle.std.proofs.lemmas.Bool.{cases_lt}
-use Rattle.bits.specs.Bit.{bit}
 use Rattle.bits.proofs.Laws.{bit_past, bit_pos}
 use Rattle.pool.specs.declared.block.Block.{Block}
 use Rattle.bits.specs.Sums.{some}
-use Rattle.tree.specs.Trees.{slot1, node, slot2, word, row, Sound}
+use Rattle.tree.specs.Trees.{node, word, Sound}
 use Rattle.tree.specs.declared.Tree.{Tree}
 use Rattle.tree.proofs.Covers.{covers_top, covers_middle}
 use Rattle.tree.proofs.Facts.{past1, past2, node0, slot0, word0}

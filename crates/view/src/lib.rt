@@ -1,5 +1,6 @@
 //! A stored set as an operand.
 #![tactic(auto)]
+
 ghost use Rattle.std.specs.Prelude.{◌≡◌, true};
 ghost use Rattle.bitset.specs.Sets.{Sound};
 ghost use Rattle.tree.specs.Trees.{node, slot1, word as word_of};

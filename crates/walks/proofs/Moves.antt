@@ -1,5 +1,5 @@
 -- What a walk over blocks has left, step by step.
-use Rattle.std.proofs.Common.{◌≡◌, ℕ, List, [], ◌∷◌, ◌++◌, sym, refl, ap, ◌∙◌}
+use Rattle.std.proofs.Common.{◌≡◌, ℕ, [], ◌∷◌, ◌++◌, ap, ◌∙◌}
 use Rattle.bits.specs.Places.{places}
 use Rattle.walks.specs.Pending.{row, rows, pending, whole}
 use Rattle.bits.proofs.Listed.{places_zero}

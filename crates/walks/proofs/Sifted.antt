@@ -1,17 +1,10 @@
 -- The indices that pass a test, ascending.
-use Rattle.std.proofs.Common.{◌≡◌, ℕ, zero, suc, ◌+◌, ◌*◌, ◌/◌, ◌%◌, ◌<◌, ◌≤◌, Bool, true, false, cond, eqb, leb, ◌⊎◌, List, [], ◌∷◌, ◌++◌, filter, sym, refl, ap, ◌∙◌, subst, inl, inr, append_assoc, arith, eq-eqb, ne_eqb, eqb-true, le-leb, leb-false, leb-true}
-use borrow.Author.Tests.{lt-leb, clash}
+use Rattle.std.proofs.Common.{◌≡◌, ℕ, zero, suc, ◌+◌, ◌<◌, ◌≤◌, Bool, true, false, leb, List, [], ◌∷◌, ◌++◌, filter, sym, ap, ◌∙◌, subst, inl, inr, arith, le-leb, leb-true}
 use Rattle.std.specs.List.{AllByRecursion as All}
-use Rattle.std.proofs.lemmas.List.Elements.{filter-append}
 use Rattle.std.proofs.ByRecursion.{all_kept_by}
-use Rattle.std.proofs.lemmas.Bool.{cases_lt, cases_eq, cases_Bool, cond-true, cond-false}
-use Rattle.bits.specs.Bit.{bit}
-use Rattle.bits.specs.Places.{scan, places}
-use Rattle.bits.proofs.Laws.{bit_lt}
-use Rattle.bits.proofs.Listed.{scan_one, scan_none, places_zero}
-use Rattle.walks.specs.Pending.{row, rows}
-use Rattle.walks.specs.Indices.{placed, spread, sift, listed, from, In, Rising, Lists, start_of}
-use Rattle.walks.proofs.Seek.{one_or_none, kept_yes, kept_no}
+use Rattle.std.proofs.lemmas.Bool.{cases_eq, cases_Bool, cond-true, cond-false}
+use Rattle.walks.specs.Indices.{sift, listed, from, In, Rising, Lists}
+use Rattle.walks.proofs.Seek.{kept_yes, kept_no}
 
 module _ (p : ℕ → Bool) where
   pub sift_yes : (n k : ℕ) → p k ≡ true → sift p (suc n) k ≡ k ∷ sift p n (suc k)

@@ -1,16 +1,15 @@
 -- Which indices are left from a place on.
-use Rattle.std.proofs.Common.{◌≡◌, ℕ, zero, suc, ◌+◌, ◌*◌, ◌/◌, ◌%◌, ◌<◌, ◌≤◌, Bool, true, false, leb, ◌⊎◌, List, [], ◌∷◌, ◌++◌, filter, sym, refl, ap, ◌∙◌, subst, inl, inr, arith, le-leb, leb-false, leb-true}
-use borrow.Author.Tests.{lt-leb, clash}
+use Rattle.std.proofs.Common.{◌≡◌, ℕ, zero, suc, ◌+◌, ◌*◌, ◌/◌, ◌%◌, ◌<◌, ◌≤◌, Bool, true, leb, List, [], ◌∷◌, ◌++◌, filter, sym, refl, ap, ◌∙◌, subst, inl, inr, arith, leb-false, leb-true}
 use Rattle.std.specs.List.{AllByRecursion as All}
 use Rattle.std.proofs.lemmas.List.Elements.{filter-append}
 use Rattle.std.proofs.ByRecursion.{kept_by_passes, All-append}
-use Rattle.std.proofs.lemmas.Bool.{cases_lt, cases_Bool}
+use Rattle.std.proofs.lemmas.Bool.{cases_Bool}
 use Rattle.bits.specs.Bit.{bit}
 use Rattle.bits.specs.Places.{scan, places}
 use Rattle.bits.proofs.Laws.{bit_of_zero}
 use Rattle.bits.proofs.Listed.{scan_one, scan_none, places_zero}
-use Rattle.walks.specs.Pending.{row, rows, pending, whole, reaches, onward}
-use Rattle.walks.specs.Indices.{placed, spread, remaining, from, start_of, Rising}
+use Rattle.walks.specs.Pending.{row, rows, whole, reaches, onward}
+use Rattle.walks.specs.Indices.{placed, spread, from, start_of, Rising}
 use Rattle.walks.proofs.Seek.{one_or_none, kept_yes, kept_no, kept_scan}
 use Rattle.walks.proofs.Sifted.{kept_rising}
 

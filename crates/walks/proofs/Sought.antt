@@ -1,5 +1,5 @@
 -- What a seek of a walk over members leaves.
-use Rattle.std.proofs.Common.{◌≡◌, ℕ, ◌+◌, ◌*◌, ◌<◌, ◌≤◌, Bool, List, [], ◌∷◌, sym, refl, ap, ◌∙◌, subst}
+use Rattle.std.proofs.Common.{◌≡◌, ℕ, ◌+◌, ◌*◌, ◌<◌, ◌≤◌, Bool, [], ◌∷◌, sym, ap, ◌∙◌}
 use Rattle.bits.specs.Bit.{bit}
 use Rattle.bits.proofs.Listed.{places_zero}
 use Rattle.operands.specs.Ruled.{Ruled}

@@ -1,5 +1,5 @@
 -- What a walk over members has left, step by step.
-use Rattle.std.proofs.Common.{◌≡◌, ℕ, ◌+◌, ◌*◌, List, [], ◌∷◌, ◌++◌, sym, refl, ap, ◌∙◌}
+use Rattle.std.proofs.Common.{◌≡◌, ℕ, ◌+◌, ◌*◌, [], ◌∷◌, ◌++◌, sym, refl, ap, ◌∙◌}
 use Rattle.bits.specs.Places.{places}
 use Rattle.bits.proofs.Listed.{places_zero}
 use Rattle.walks.specs.Pending.{pending, whole}

@@ -1,6 +1,7 @@
 //! Replays stored walks with seeks over stored sets and combinations of them, and counts the answers
 //! that differ from the Rust crate's.
 #![tactic(auto)]
+
 ghost use Rattle.bitset.specs.Sets.{Sound};
 ghost use Rattle.std.specs.Prelude.{◌<◌, ◌≤◌, length};
 

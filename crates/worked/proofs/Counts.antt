@@ -1,11 +1,8 @@
 -- The replies of the worked cases, computed from the definitions.
-use Rattle.std.proofs.Common.{◌≡◌, ℕ, ◌*◌, ◌^◌, ◌<◌, Bool, true, false, not, ◌&&◌, ◌||◌, eqb, List, [], ◌∷◌, sym, refl, ap, ◌∙◌, lit<}
-use mathlib.Core.Path.{fun_ext}
-use lib.Bits.{bit_and}
+use Rattle.std.proofs.Common.{◌≡◌, ℕ, Bool, false, not, ◌&&◌, ◌||◌, eqb, [], ◌∷◌, refl, lit<}
 use Rattle.bits.specs.Sums.{total}
-use Rattle.roll.specs.Roll.{Roll, answer, fitting, made, Insert, Done, Refused}
+use Rattle.roll.specs.Roll.{Roll, fitting, Done, Refused}
 use Rattle.walks.specs.Indices.{listed, sift}
-use Rattle.merge.specs.Merged.{groups_in, blocks_in}
 use Rattle.worked.proofs.Held.{Held, with_index, without_index, empty, put, gone, counted}
 
 -- a roll, by its members and pools

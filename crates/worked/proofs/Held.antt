@@ -1,13 +1,13 @@
 -- Members kept as words, whose groups and blocks are quickly counted.
-use Rattle.std.proofs.Common.{◌≡◌, ℕ, ◌-◌, ◌*◌, ◌/◌, ◌%◌, ◌^◌, ◌<◌, max, Bool, true, false, cond, not, ◌&&◌, ◌||◌, eqb, leb, ◌⊎◌, sym, refl, ap, ◌∙◌, ⊎_elim, arith}
+use Rattle.std.proofs.Common.{◌≡◌, ℕ, ◌-◌, ◌*◌, ◌/◌, ◌%◌, ◌^◌, ◌<◌, Bool, false, cond, not, ◌&&◌, ◌||◌, eqb, leb, sym, refl, ap, ◌∙◌, ⊎_elim, arith}
 use mathlib.Core.Path.{fun_ext}
 use lib.Bits.{bit_and, bit_or, or_lt, and_le_l}
 use Rattle.bits.specs.Bit.{bit}
-use Rattle.bits.specs.Sums.{same, total}
+use Rattle.bits.specs.Sums.{same}
 use Rattle.bits.proofs.Marks.{mark}
 use Rattle.bits.proofs.Laws.{bit_not}
-use Rattle.roll.specs.Members.{groups, blocks, members}
-use Rattle.roll.specs.Roll.{Answer, Done, Refused, fitting}
+use Rattle.roll.specs.Members.{blocks, members}
+use Rattle.roll.specs.Roll.{Done, Refused, fitting}
 use Rattle.roll.proofs.Counts.{groups_words, blocks_words}
 use Rattle.merge.specs.Merged.{groups_in, blocks_in}
 use Rattle.tree.proofs.Facts.{cases_pair}

@@ -1,6 +1,5 @@
 -- A list of asks and replies, one by one.
-use Rattle.std.proofs.Common.{◌≡◌, ℕ, ◌*◌, ◌^◌, Bool, true, false, cond, ◌&&◌, eqb, ltb, List, [], ◌∷◌, map, sym, refl, ap, ◌∙◌}
-use mathlib.Core.Path.{fun_ext}
+use Rattle.std.proofs.Common.{◌≡◌, ℕ, ◌*◌, ◌^◌, Bool, true, false, cond, ◌&&◌, eqb, ltb, List, [], ◌∷◌, map, refl, ap, ◌∙◌}
 use Rattle.bits.specs.Bit.{bit}
 use Rattle.bits.specs.Indices.{offset}
 use Rattle.bits.proofs.Laws.{bit_of_zero}

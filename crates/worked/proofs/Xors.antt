@@ -1,5 +1,5 @@
 -- Xor of {5, 70} with itself, computed from the definitions.
-use Rattle.std.proofs.Common.{◌≡◌, ℕ, ◌*◌, ◌^◌, Bool, true, false, List, [], ◌∷◌, ◌++◌, map, sym, refl, ap, ◌∙◌}
+use Rattle.std.proofs.Common.{◌≡◌, ℕ, ◌*◌, ◌^◌, Bool, [], ◌∷◌, ◌++◌, map, refl, ap, ◌∙◌}
 use lib.Bits.{bit_or, bit_xor, xor_self}
 use Rattle.bits.specs.Sums.{total}
 use Rattle.bits.specs.Bit.{bit}

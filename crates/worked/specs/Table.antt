@@ -1,5 +1,5 @@
 -- The worked cases as a table, and what each of them says.
-use Rattle.std.specs.Prelude.{◌≡◌, ℕ, ◌+◌, ◌*◌, ◌^◌, Bool, true, false, ◌||◌, List, [], ◌∷◌, map, Some, None, Option, ◌==◌, bit_and, bit_or, bit_xor}
+use Rattle.std.specs.Prelude.{◌≡◌, ℕ, ◌+◌, ◌*◌, ◌^◌, Bool, true, false, ◌||◌, List, [], ◌∷◌, map, Some, None, ◌==◌, bit_and, bit_or, bit_xor}
 use Rattle.bits.specs.Bit.{cut}
 use Rattle.bits.specs.Indices.{group, place, offset}
 use Rattle.bits.specs.Sums.{total}
@@ -8,7 +8,6 @@ use Rattle.roll.specs.Roll.{nobody, Insert, Remove, Done, Told, Refused}
 use Rattle.roll.specs.Merges.{Unite}
 use Rattle.operands.specs.Combined.{joined}
 use Rattle.walks.specs.declared.block_iter.DataBlock.{DataBlock}
-use Rattle.acts.specs.declared.Action.{Action}
 use Rattle.acts.specs.declared.Action.TheVariants.{Next, Seek}
 use Rattle.acts.specs.Blocks.{announced, word_of}
 use Rattle.runs.specs.Asks.{Ask, Reply, Ordered, Merged, Indices, Said, Listed, replies}

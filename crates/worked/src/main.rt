@@ -1,14 +1,15 @@
 //! The worked cases: those of the table are proved from the definitions, the others are run.
 #![tactic(auto)]
+
 ghost use Rattle.worked.specs.Table.{AllHold, table};
 
+use acts::{Stop, ThenNext, ThenSeek};
 use pool::block::Block;
 use questions::set_walks::Indices;
 use roll::Refusal;
 use runs::calls::{Insert, InsertBlock, Remove, Unite, Used};
 use runs::laws::{after_list, alike, next_call};
 use runs::script::{Finish, Then};
-use acts::{Stop, ThenNext, ThenSeek};
 use view::View;
 
 // What the slices hold before they are lent.

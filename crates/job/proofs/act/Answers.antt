@@ -1,4 +1,4 @@
-use mathlib.Core.Path.{◌≡◌, refl, sym, subst}
+use mathlib.Core.Path.{refl, sym, subst}
 use Rattle.roll.specs.Roll.{Contains}
 use Rattle.shift.specs.declared.Step.{Step}
 use Rattle.job.specs.declared.Report.TheVariants.{Answered}

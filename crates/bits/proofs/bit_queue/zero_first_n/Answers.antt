@@ -1,4 +1,4 @@
-use Rattle.std.proofs.Common.{◌≡◌, ◌^◌, ◌<◌, sym, ap, ◌∙◌, rules}
+use Rattle.std.proofs.Common.{◌≡◌, sym, ap, ◌∙◌, rules}
 use Rattle.bits.specs.Bit.{bit, cut}
 use Rattle.bits.proofs.Cut.{cut_low, cut_high, masked, emptied}
 use Rattle.bits.proofs.bit_queue.zero_first_n.Goals as goal

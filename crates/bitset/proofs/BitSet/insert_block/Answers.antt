@@ -1,10 +1,9 @@
-use Rattle.std.proofs.Common.{◌≡◌, ℕ, ◌%◌, ◌^◌, ◌<◌, ◌≤◌, Bool, true, false, cond, ◌||◌, eqb, ltb, sym, refl, ap, ◌∙◌, arith, rules}
+use Rattle.std.proofs.Common.{◌≡◌, ◌%◌, ◌^◌, ◌<◌, cond, eqb, ltb, sym, refl, ap, ◌∙◌, arith, rules}
 use Rattle.std.proofs.lemmas.Bool.{lt-ltb, eq-eqb, ne_eqb, false≢true}
-use Rattle.roll.specs.Roll.{Done, Refused, InsertBlock, fitting, made, in_block}
+use Rattle.roll.specs.Roll.{Done, Refused, InsertBlock, fitting, made}
 use Rattle.roll.specs.Answers.{outcome}
 use Rattle.roll.specs.Members.{members}
 use Rattle.tree.specs.Trees.{word, slots1, slots2}
-use Rattle.bitset.specs.Sets.{tree_roll}
 use Rattle.bitset.proofs.Digits.{joined, block_in, block_out}
 use Rattle.bitset.proofs.Calls.{gained, zero_word}
 use Rattle.bitset.proofs.BitSet.insert_block.Goals as goal

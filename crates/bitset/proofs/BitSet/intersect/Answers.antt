@@ -1,4 +1,3 @@
-use Rattle.std.proofs.Common.{◌≡◌, refl}
 use Rattle.bitset.proofs.Words.{cuts}
 use Rattle.bitset.proofs.BitSet.intersect.Goals as goal
 

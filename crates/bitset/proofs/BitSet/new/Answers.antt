@@ -1,6 +1,4 @@
-use Rattle.std.proofs.Common.{◌≡◌, ◌%◌, false, ◌&&◌, eqb, ltb, refl, ap, ◌∙◌}
-use Rattle.bits.specs.Bit.{bit}
-use Rattle.bits.proofs.Laws.{bit_of_zero}
+use Rattle.std.proofs.Common.{false, ap}
 use Rattle.bitset.specs.Sets.{slots_of}
 use Rattle.bitset.proofs.Calls.{same_roll}
 use Rattle.bitset.proofs.Digits.{no_bit}

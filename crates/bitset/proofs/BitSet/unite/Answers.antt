@@ -1,4 +1,4 @@
-use Rattle.std.proofs.Common.{◌≡◌, refl, ap}
+use Rattle.std.proofs.Common.{ap}
 use Rattle.roll.specs.Answers.{outcome}
 use Rattle.bitset.proofs.Words.{unites}
 use Rattle.bitset.proofs.BitSet.unite.Goals as goal

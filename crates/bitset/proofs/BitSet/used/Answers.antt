@@ -1,4 +1,4 @@
-use Rattle.std.proofs.Common.{◌≡◌, sym, ap, ◌∙◌}
+use Rattle.std.proofs.Common.{sym, ap, ◌∙◌}
 use Rattle.roll.specs.Roll.{Counted}
 use Rattle.roll.proofs.Counts.{groups_words, blocks_words}
 use Rattle.roll.specs.Members.{groups, members}

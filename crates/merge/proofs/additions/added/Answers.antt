@@ -1,4 +1,4 @@
-use Rattle.std.proofs.Common.{◌≡◌, ℕ, ◌+◌, ◌^◌, ◌<◌, ◌≤◌, sym, ap, ◌∙◌, arith}
+use Rattle.std.proofs.Common.{◌≡◌, ◌+◌, arith}
 use lib.Count.{ones, ones-le}
 use Rattle.bits.specs.Sums.{some}
 use Rattle.bits.proofs.Ones.{ones_some}

@@ -1,7 +1,6 @@
-use Rattle.std.proofs.Common.{◌≡◌, ℕ, ◌+◌, ◌<◌, ◌≤◌, sym, ap, ◌∙◌, arith}
+use Rattle.std.proofs.Common.{◌≡◌, ℕ, ◌<◌, ap, ◌∙◌, arith}
 use Rattle.bits.specs.Bit.{bit}
-use Rattle.bits.specs.Sums.{total}
-use Rattle.merge.proofs.Queue.{left_of, sum_end}
+use Rattle.merge.proofs.Queue.{sum_end}
 use Rattle.merge.proofs.Counted.{adds_group, adds_blocks, groups_sum, blocks_sum, groups_few, blocks_few, groups_start, blocks_start, counted_one}
 use Rattle.merge.proofs.additions.additions.Goals as goal
 

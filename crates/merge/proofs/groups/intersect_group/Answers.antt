@@ -1,4 +1,4 @@
-use Rattle.std.proofs.Common.{◌≡◌, sym, refl, ap, ◌∙◌, subst, arith}
+use Rattle.std.proofs.Common.{◌≡◌, sym, ap, ◌∙◌, subst}
 use lib.Bits.{bit_and, and_zero_l}
 use Rattle.bits.specs.Bit.{bit}
 use Rattle.tree.specs.Steps.{Put}

@@ -1,10 +1,9 @@
-use Rattle.std.proofs.Common.{◌≡◌, ℕ, ◌<◌, sym, refl, ap, ◌∙◌, subst, arith}
+use Rattle.std.proofs.Common.{◌≡◌, ◌<◌, sym, ap, ◌∙◌, subst, arith}
 use lib.Bits.{bit_or, or_zero_r}
 use Rattle.bits.specs.Bit.{bit}
 use Rattle.tree.specs.Steps.{Put}
 use Rattle.tree.specs.Trees.{word}
-use Rattle.merge.specs.Merged.{in_group}
-use Rattle.merge.proofs.Queue.{at, gone_places, place_gone, place_there, places_end}
+use Rattle.merge.proofs.Queue.{place_gone, place_there, places_end}
 use Rattle.merge.proofs.Merging.{both, one_word, no_word, repicked, start_places, unannounced}
 use Rattle.merge.proofs.Union.{has_room, still_groups, still_blocks}
 use Rattle.merge.proofs.groups.unite_group.Goals as goal

@@ -1,7 +1,6 @@
-use Rattle.std.proofs.Common.{◌≡◌, sym, ◌∙◌, arith}
+use Rattle.std.proofs.Common.{sym, ◌∙◌, arith}
 use Rattle.std.proofs.lemmas.Bool.{leb-true}
-use Rattle.tree.specs.Trees.{held_by, count2, slots2}
-use Rattle.tree.specs.Steps.{blocks_with}
+use Rattle.tree.specs.Trees.{held_by, count2}
 use Rattle.tree.proofs.Facts.{tally2}
 use Rattle.tree.proofs.Whole.{used_blocks}
 use Rattle.tree.proofs.Room.{new_block, room_done, room_blocks}

@@ -1,4 +1,4 @@
-use Rattle.std.proofs.Common.{◌≡◌, ◌<◌, ◌≤◌, sym, ⊎_elim}
+use Rattle.std.proofs.Common.{◌<◌, ◌≤◌, sym, ⊎_elim}
 use Rattle.tree.proofs.Facts.{word0, slot0, past1, past2}
 use Rattle.tree.proofs.Tree.data_mask.Goals as goal
 

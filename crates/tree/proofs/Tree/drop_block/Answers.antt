@@ -1,4 +1,4 @@
-use Rattle.std.proofs.Common.{◌≡◌, ◌-◌, ◌^◌, ◌<◌, refl, ap, ◌∙◌, rules}
+use Rattle.std.proofs.Common.{◌-◌, ◌^◌, ◌<◌, refl, ap, ◌∙◌, rules}
 use Rattle.bits.specs.Bit.{bit}
 use Rattle.bits.specs.Sums.{same}
 use Rattle.tree.specs.Trees.{held_by, count2}

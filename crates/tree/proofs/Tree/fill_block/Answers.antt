@@ -1,6 +1,6 @@
-use Rattle.std.proofs.Common.{◌≡◌, ◌+◌, ◌^◌, ◌<◌, length, get_or, refl, ap, ◌∙◌, arith}
+use Rattle.std.proofs.Common.{◌≡◌, ◌^◌, ◌<◌, get_or, refl, ap, ◌∙◌, arith}
 use Rattle.pool.specs.declared.block.Block.{Block}
-use Rattle.tree.specs.Trees.{slot1, slot2, used1, used2}
+use Rattle.tree.specs.Trees.{slot2}
 use Rattle.tree.proofs.Facts.{within2}
 use Rattle.tree.proofs.Fill.{store}
 use Rattle.tree.proofs.Whole.{room_group, room_block, ored}

@@ -1,4 +1,4 @@
-use Rattle.std.proofs.Common.{◌≡◌, sym, ap, arith}
+use Rattle.std.proofs.Common.{sym, ap, arith}
 use Rattle.pool.specs.declared.block.Block.{Block}
 use Rattle.tree.proofs.Facts.{node0, past1}
 use Rattle.tree.proofs.Tree.level1_mask.Goals as goal

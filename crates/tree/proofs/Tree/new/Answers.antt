@@ -1,4 +1,4 @@
-use Rattle.std.proofs.Common.{◌≡◌, replicate, refl}
+use Rattle.std.proofs.Common.{replicate, refl}
 use Rattle.tree.proofs.Start.{new_sound, new_word}
 use Rattle.tree.proofs.Tree.new.Goals as goal
 

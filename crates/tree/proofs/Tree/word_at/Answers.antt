@@ -1,4 +1,4 @@
-use Rattle.std.proofs.Common.{◌≡◌, get_or, sym, ap, ◌∙◌, arith}
+use Rattle.std.proofs.Common.{get_or, sym, ap, ◌∙◌, arith}
 use Rattle.pool.specs.declared.block.Block.{Block}
 use Rattle.pool.specs.Kinds.{level1_kind}
 use Rattle.tree.proofs.Facts.{within1, within2, past2, word0}

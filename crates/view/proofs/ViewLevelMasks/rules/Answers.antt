@@ -1,4 +1,4 @@
-use Rattle.std.proofs.Common.{◌≡◌, ◌^◌, ◌<◌, ap, ◌∙◌, arith}
+use Rattle.std.proofs.Common.{◌≡◌, ap, ◌∙◌, arith}
 use Rattle.tree.specs.declared.Tree.{Tree}
 use Rattle.view.proofs.Rules.{set_ruled}
 use Rattle.view.proofs.ViewLevelMasks.rules.Goals as goal

@@ -1,4 +1,4 @@
-use Rattle.std.proofs.Common.{◌≡◌, ℕ, [], get_or, set, refl, ap, ◌∙◌, arith}
+use Rattle.std.proofs.Common.{[], set, refl, ap, ◌∙◌}
 use Rattle.std.proofs.lemmas.List.{get_or_default}
 use Rattle.pool.specs.declared.block.Block.{Block}
 use Rattle.pool.specs.Kinds.{level1_kind}

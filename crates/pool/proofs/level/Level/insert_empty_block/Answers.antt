@@ -1,4 +1,4 @@
-use Rattle.std.proofs.Common.{◌≡◌, refl, arith}
+use Rattle.std.proofs.Common.{refl, arith}
 use Rattle.std.proofs.lemmas.Bool.Decides.{nat_tests}
 use Rattle.pool.proofs.Chains.{popped, take_pop, take_fresh, take_none}
 use Rattle.pool.proofs.level.Level.insert_empty_block.Goals as goal

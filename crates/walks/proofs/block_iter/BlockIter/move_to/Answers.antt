@@ -1,6 +1,6 @@
-use Rattle.std.proofs.Common.{◌≡◌, ℕ, ◌/◌, ◌<◌, ◌≤◌, true, false, sym, refl, ap, ◌∙◌, subst, inl, inr, arith}
+use Rattle.std.proofs.Common.{◌≡◌, ℕ, ◌/◌, ◌<◌, ◌≤◌, true, false, sym, refl, ap, ◌∙◌, subst}
 use Rattle.bits.specs.Bit.{bit}
-use Rattle.walks.specs.Pending.{pending, whole, onward, reaches}
+use Rattle.walks.specs.Pending.{reaches}
 use Rattle.walks.proofs.Seek.{seek_some, seek_none, left_cut, left_whole, past}
 use Rattle.walks.proofs.block_iter.BlockIter.move_to.Goals as goal
 use Rattle.walks.proofs.block_iter.BlockIter.move_to.Goals.{then-i-group, else-i-group}

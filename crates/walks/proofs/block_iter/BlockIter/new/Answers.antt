@@ -1,4 +1,4 @@
-use Rattle.std.proofs.Common.{◌≡◌, refl, ap, ◌∙◌, arith}
+use Rattle.std.proofs.Common.{refl, ap, ◌∙◌, arith}
 use Rattle.walks.specs.Pending.{whole}
 use Rattle.walks.proofs.Moves.{pending_start}
 use Rattle.walks.proofs.block_iter.BlockIter.new.Goals as goal

@@ -1,4 +1,4 @@
-use Rattle.std.proofs.Common.{◌≡◌, sym, refl, ap, ◌∙◌}
+use Rattle.std.proofs.Common.{sym, refl, ap, ◌∙◌}
 use Rattle.walks.specs.Pending.{pending}
 use Rattle.walks.proofs.Moves.{pending_left, pending_top, pending_none}
 use Rattle.walks.proofs.block_iter.BlockIter.next.Goals as goal

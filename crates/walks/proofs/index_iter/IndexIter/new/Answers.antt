@@ -1,4 +1,4 @@
-use Rattle.std.proofs.Common.{◌≡◌, sym, refl, ap, ◌∙◌, subst, arith}
+use Rattle.std.proofs.Common.{◌≡◌, sym, ◌∙◌, subst, arith}
 use Rattle.roll.specs.Members.{members}
 use Rattle.walks.specs.Pending.{pending, whole}
 use Rattle.walks.specs.Indices.{Lists, remaining, listed}

@@ -1,4 +1,4 @@
-use Rattle.std.proofs.Common.{◌≡◌, sym, refl, ap, ◌∙◌, subst, arith}
+use Rattle.std.proofs.Common.{◌∙◌, arith}
 use Rattle.walks.proofs.Steps.{took_block, rem_word, rem_none}
 use Rattle.walks.proofs.index_iter.IndexIter.next.Goals as goal
 
