@@ -14,6 +14,7 @@ use pool::block::Block;
 use pool::level::Level;
 use shift::{Step, read_step};
 use std::alloc::Global;
+use std::process::ExitCode;
 use std::{env, fs, io};
 use view::View;
 use walks::index_iter::IndexIter;
@@ -47,30 +48,38 @@ A shift is plain text, a step to a line:
 An empty line, or one that begins with #, is passed over. A change that the map refuses is told
 with its number, and the shift goes on; a line that cannot be read ends it with status 1.";
 
-fn main(rt: HostRuntime) -> anyhow::Result<()> {
+fn main(rt: HostRuntime) -> ExitCode {
     match run(&rt) {
-        Ok(()) => Ok(()),
+        Ok(status) => status,
         Err(e) => {
             let _ = eprintln!(rt; "dispatch: {e}");
-            Err(e)
+            ExitCode::FAILURE
         }
     }
 }
 
-fn run(rt: &HostRuntime) -> anyhow::Result<()> {
+fn run(rt: &HostRuntime) -> anyhow::Result<ExitCode> {
     let mut args = env::args(rt)?;
     let _ = args.next();
     let Some(path) = args.next() else {
         let text = io::read_to_string(rt.alloc(), rt.stdin())?;
-        return tell(rt, text.as_str());
+        tell(rt, text.as_str())?;
+        return Ok(ExitCode::SUCCESS);
     };
     if path.as_str() == "--help" {
         rt.println(HELP)?;
-        return Ok(());
+        return Ok(ExitCode::SUCCESS);
     }
     match fs::read_to_string(rt, path.as_str()) {
-        Ok(text) => tell(rt, text.as_str()),
-        Err(e) => Err(anyhow!(format!(in rt.alloc(); "cannot read {path}: {e}")?)),
+        Ok(text) => {
+            tell(rt, text.as_str())?;
+            Ok(ExitCode::SUCCESS)
+        }
+        // told here, whole: an anyhow::Error keeps 120 bytes of a message
+        Err(e) => {
+            let _ = eprintln!(rt; "dispatch: cannot read {path}: {e}");
+            Ok(ExitCode::FAILURE)
+        }
     }
 }
 
