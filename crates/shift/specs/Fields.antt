@@ -1,6 +1,6 @@
 -- How spaces cut a line into fields, and how fields list numbers.
 use Rattle.std.specs.Prelude.{◌≡◌, ℕ, zero, suc, ◌⊎◌, List, [], ◌∷◌, ◌++◌, ◌≢◌}
-use Rattle.std.specs.List.{AllByRecursion as All}
+use Rattle.std.specs.List.{AllByRecursion}
 use Rattle.shift.specs.Numbers.{Unfit, Writes}
 use Rattle.shift.specs.declared.Expected.{Expected}
 use Rattle.shift.specs.declared.Expected.TheVariants.{Number, End}
@@ -11,7 +11,7 @@ space = 32
 
 -- no byte of the field is a space
 abbrev pub Bare : List ℕ → Type 0
-Bare field = All (λ c. c ≢ space) field
+Bare field = AllByRecursion (λ c. c ≢ space) field
 
 -- a field ends here: at a space, or at the line's end
 abbrev pub Cut : List ℕ → Type 0

@@ -1,6 +1,6 @@
 -- How digits write a number.
 use Rattle.std.specs.Prelude.{◌≡◌, ℕ, ◌+◌, ◌-◌, ◌*◌, ◌^◌, ◌<◌, ◌≤◌, ◌⊎◌, List, length, fold}
-use Rattle.std.specs.List.{AllByRecursion as All}
+use Rattle.std.specs.List.{AllByRecursion}
 use Rattle.shift.specs.declared.Expected.{Expected}
 use Rattle.shift.specs.declared.Expected.TheVariants.{Number, TooLarge}
 
@@ -10,7 +10,7 @@ Digit c = (48 ≤ c) × (c ≤ 57)
 
 -- 1 to 20 decimal digits
 pub record Decimal (ds : List ℕ) : Type 0 where
-  pub digits : All Digit ds
+  pub digits : AllByRecursion Digit ds
   pub some : 1 ≤ length ds
   pub few : length ds ≤ 20
 

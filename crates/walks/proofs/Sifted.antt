@@ -1,6 +1,6 @@
 -- The indices that pass a test, ascending.
 use Rattle.std.proofs.Common.{◌≡◌, ℕ, zero, suc, ◌+◌, ◌<◌, ◌≤◌, Bool, true, false, leb, List, [], ◌∷◌, ◌++◌, filter, sym, ap, ◌∙◌, subst, inl, inr, arith, le-leb, leb-true}
-use Rattle.std.specs.List.{AllByRecursion as All}
+use Rattle.std.specs.List.{AllByRecursion}
 use Rattle.std.proofs.ByRecursion.{all_kept_by}
 use Rattle.std.proofs.lemmas.Bool.{cases_eq, cases_Bool, cond-true, cond-false}
 use Rattle.walks.specs.Indices.{sift, listed, from, In, Rising, Lists}
@@ -67,12 +67,12 @@ module _ (p : ℕ → Bool) where
         | inr y ↦ subst (Rising (λ x. x)) (sym (sift_no n k y)) (sift_rising n (suc k))
       ]
     where
-      later : (n b k : ℕ) → b < k → All (λ x. b < x) (sift p n k)
+      later : (n b k : ℕ) → b < k → AllByRecursion (λ x. b < x) (sift p n k)
       later zero b k h = tt
       later (suc n) b k h =
           elim (cases_Bool (p k)) [
-            | inl y ↦ subst (All (λ x. b < x)) (sym (sift_yes n k y)) (h, later n b (suc k) (omega arith))
-            | inr y ↦ subst (All (λ x. b < x)) (sym (sift_no n k y)) (later n b (suc k) (omega arith))
+            | inl y ↦ subst (AllByRecursion (λ x. b < x)) (sym (sift_yes n k y)) (h, later n b (suc k) (omega arith))
+            | inr y ↦ subst (AllByRecursion (λ x. b < x)) (sym (sift_no n k y)) (later n b (suc k) (omega arith))
           ]
 
 -- ---- what a test keeps

@@ -1,6 +1,6 @@
 -- Which indices are left from a place on.
 use Rattle.std.proofs.Common.{◌≡◌, ℕ, zero, suc, ◌+◌, ◌*◌, ◌/◌, ◌%◌, ◌<◌, ◌≤◌, Bool, true, leb, List, [], ◌∷◌, ◌++◌, filter, sym, refl, ap, ◌∙◌, subst, inl, inr, arith, leb-false, leb-true}
-use Rattle.std.specs.List.{AllByRecursion as All}
+use Rattle.std.specs.List.{AllByRecursion}
 use Rattle.std.proofs.lemmas.List.Elements.{filter-append}
 use Rattle.std.proofs.ByRecursion.{kept_by_passes, All-append}
 use Rattle.std.proofs.lemmas.Bool.{cases_Bool}
@@ -15,28 +15,28 @@ use Rattle.walks.proofs.Sifted.{kept_rising}
 
 -- ---- pairs rise
 
-row_each : (P : ℕ × ℕ → Type 0) (i n k w : ℕ) → ((l : ℕ) → k ≤ l → l < k + n → P (i, l)) → All P (row i (scan n k w))
+row_each : (P : ℕ × ℕ → Type 0) (i n k w : ℕ) → ((l : ℕ) → k ≤ l → l < k + n → P (i, l)) → AllByRecursion P (row i (scan n k w))
 unfolding row scan
 row_each P i zero k w h = tt
 row_each P i (suc n) k w h =
     let t = row_each P i n (suc k) w (λ l a b. h l (omega arith) (omega arith)) in
     elim (one_or_none w k) [
-      | inl e ↦ subst (λ x. All P (row i x)) (sym (scan_one n k w e)) (h k (omega arith) (omega arith), t)
-      | inr e ↦ subst (λ x. All P (row i x)) (sym (scan_none n k w e)) t
+      | inl e ↦ subst (λ x. AllByRecursion P (row i x)) (sym (scan_one n k w e)) (h k (omega arith) (omega arith), t)
+      | inr e ↦ subst (λ x. AllByRecursion P (row i x)) (sym (scan_none n k w e)) t
     ]
 
-rows_each : (P : ℕ × ℕ → Type 0) (m : ℕ → ℕ) (n k t : ℕ) → ((i l : ℕ) → k ≤ i → l < 64 → P (i, l)) → All P (rows m (scan n k t))
+rows_each : (P : ℕ × ℕ → Type 0) (m : ℕ → ℕ) (n k t : ℕ) → ((i l : ℕ) → k ≤ i → l < 64 → P (i, l)) → AllByRecursion P (rows m (scan n k t))
 unfolding rows scan places
 rows_each P m zero k t h = tt
 rows_each P m (suc n) k t h =
     let r = rows_each P m n (suc k) t (λ i l a b. h i l (omega arith) b) in
     elim (one_or_none t k) [
-      | inl e ↦ subst (λ x. All P (rows m x)) (sym (scan_one n k t e))
+      | inl e ↦ subst (λ x. AllByRecursion P (rows m x)) (sym (scan_one n k t e))
           (All-append P (row k (places (m k))) (rows m (scan n (suc k) t)) (row_each P k 64 0 (m k) (λ l a b. h k l (omega arith) (omega arith))) r)
-      | inr e ↦ subst (λ x. All P (rows m x)) (sym (scan_none n k t e)) r
+      | inr e ↦ subst (λ x. AllByRecursion P (rows m x)) (sym (scan_none n k t e)) r
     ]
 
-rising_append : {X : Type 0} (f : X → ℕ) (xs ys : List X) → Rising f xs → Rising f ys → All (λ x. All (λ y. f x < f y) ys) xs → Rising f (xs ++ ys)
+rising_append : {X : Type 0} (f : X → ℕ) (xs ys : List X) → Rising f xs → Rising f ys → AllByRecursion (λ x. AllByRecursion (λ y. f x < f y) ys) xs → Rising f (xs ++ ys)
 rising_append f [] ys p q h = q
 rising_append f (x ∷ xs) ys p q h = (All-append (λ y. f x < f y) xs ys p.0 h.0, rising_append f xs ys p.1 q h.1)
 
@@ -57,7 +57,7 @@ rows_rising m (suc n) k t =
     elim (one_or_none t k) [
       | inl e ↦ subst (λ x. Rising start_of (rows m x)) (sym (scan_one n k t e))
           (rising_append start_of (row k (places (m k))) (rows m (scan n (suc k) t)) (row_rising k 64 0 (m k)) (rows_rising m n (suc k) t)
-          (row_each (λ x. All (λ y. start_of x < start_of y) (rows m (scan n (suc k) t))) k 64 0 (m k)
+          (row_each (λ x. AllByRecursion (λ y. start_of x < start_of y) (rows m (scan n (suc k) t))) k 64 0 (m k)
           (λ l a b. rows_each (λ y. start_of (k, l) < start_of y) m n (suc k) t (λ i j c d. omega arith))))
       | inr e ↦ subst (λ x. Rising start_of (rows m x)) (sym (scan_none n k t e)) (rows_rising m n (suc k) t)
     ]
@@ -105,7 +105,7 @@ from_onward word s (p ∷ ps) =
           ∙ ap (λ x. filter (leb s) (spread word x)) (sym (kept_no (reaches s) p ps y))
     ]
 
-from_past : (word : ℕ → ℕ → ℕ) (s : ℕ) (ps : List (ℕ × ℕ)) → All (λ p. s ≤ start_of p) ps → filter (leb s) (spread word ps) ≡ spread word ps
+from_past : (word : ℕ → ℕ → ℕ) (s : ℕ) (ps : List (ℕ × ℕ)) → AllByRecursion (λ p. s ≤ start_of p) ps → filter (leb s) (spread word ps) ≡ spread word ps
 unfolding spread
 from_past word s [] h = refl
 from_past word s (p ∷ ps) h =
@@ -115,7 +115,7 @@ from_past word s (p ∷ ps) h =
     (block_kept s (start_of p) (word p.0 p.1) (word p.0 p.1) (λ l a. ((λ e. refl), (λ e. absurd (omega (arith, h.0))))))
     ∙ ap (λ x. here ++ x) (from_past word s ps h.1)
 
-past_head : (s : ℕ) (p : ℕ × ℕ) → s ≤ start_of p + 63 → (ps : List (ℕ × ℕ)) → All (λ y. start_of p < start_of y) ps → All (λ y. s ≤ start_of y) ps
+past_head : (s : ℕ) (p : ℕ × ℕ) → s ≤ start_of p + 63 → (ps : List (ℕ × ℕ)) → AllByRecursion (λ y. start_of p < start_of y) ps → AllByRecursion (λ y. s ≤ start_of y) ps
 past_head s p h [] a = tt
 past_head s p h (q ∷ qs) a = (omega (arith, a.0), past_head s p h qs a.1)
 
@@ -126,7 +126,7 @@ module _ (word : ℕ → ℕ → ℕ) (m : ℕ → ℕ) (t s : ℕ) where
   unfolding onward from spread
   skip_some i j left ps e h =
       let here = placed (4096 * i + 64 * j) (places (word i j)) in
-      let passes = subst (All (λ p. reaches s p ≡ true)) e (kept_by_passes (reaches s) (whole m t)) in
+      let passes = subst (AllByRecursion (λ p. reaches s p ≡ true)) e (kept_by_passes (reaches s) (whole m t)) in
       let reach = leb-true s (4096 * i + 64 * j + 63) passes.0 in
       let rises = subst (Rising start_of) e (kept_rising start_of (reaches s) (whole m t) (whole_rising m t)) in
       sym (from_onward word s (whole m t)

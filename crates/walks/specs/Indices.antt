@@ -1,6 +1,6 @@
 -- The indices of a walk over members, in order.
 use Rattle.std.specs.Prelude.{◌≡◌, ℕ, zero, suc, ◌+◌, ◌*◌, ◌<◌, ◌≤◌, Bool, true, cond, ◌⊎◌, List, [], ◌∷◌, ◌++◌, filter, nat_le}
-use Rattle.std.specs.List.{AllByRecursion as All}
+use Rattle.std.specs.List.{AllByRecursion}
 use Rattle.bits.specs.Places.{places}
 use Rattle.walks.specs.Pending.{pending}
 
@@ -42,7 +42,7 @@ In x (y ∷ ys) = (y ≡ x) ⊎ In x ys
 -- strictly rising by a measure
 abbrev pub Rising : {X : Type 0} → (X → ℕ) → List X → Type 0
 Rising f [] = Unit {0}
-Rising f (x ∷ xs) = All (λ y. f x < f y) xs × Rising f xs
+Rising f (x ∷ xs) = AllByRecursion (λ y. f x < f y) xs × Rising f xs
 
 -- xs are exactly the numbers from s on that pass, each once, in rising order
 pub record Lists (p : ℕ → Bool) (s : ℕ) (xs : List ℕ) : Type 0 where

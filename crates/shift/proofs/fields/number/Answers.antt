@@ -3,14 +3,14 @@ use Rattle.std.proofs.Common.{ℕ, ◌+◌, ◌-◌, ◌*◌, ◌^◌, ◌<◌, 
 use Rattle.std.proofs.ByRecursion.{All-get_or, All-more}
 use Rattle.std.proofs.lemmas.List.{take_all}
 use Rattle.std.proofs.lemmas.List.Sums.{fold_more}
-use Rattle.std.specs.List.{AllByRecursion as All}
+use Rattle.std.specs.List.{AllByRecursion}
 use Rattle.shift.specs.Numbers.{Digit, Decimal, value}
 use Rattle.shift.proofs.fields.number.Goals as goal
 
 grows : (n d i : ℕ) → n < 10 ^ i → d < 10 → n * 10 + d < 10 ^ (i + 1)
 grows n d i h l = rw add-one (omega arith)
 
-decimal : (xs : List ℕ) (i : ℕ) → length xs ≤ i → All Digit (take i xs) → 1 ≤ length xs → length xs ≤ 20 → Decimal xs
+decimal : (xs : List ℕ) (i : ℕ) → length xs ≤ i → AllByRecursion Digit (take i xs) → 1 ≤ length xs → length xs ≤ 20 → Decimal xs
 decimal xs i h all some few = record { digits = rw (take_all i xs h) at all; some = some; few = few }
 
 pub returns-then-not-is_ascii_digit : goal.returns-then-not-is_ascii_digit
