@@ -1,6 +1,6 @@
 //! The walk over blocks, as a walk that lists of actions are asked of.
 ghost use Rattle.acts.specs.Blocks.{block_list, announced, reaching};
-ghost use Rattle.walks.specs.Left.{Sane, pairs_of};
+ghost use Rattle.walks.specs.Left.{pairs_of};
 
 use super::Walk;
 use operands::bitset_interface::{LevelMasks, LevelMasksIterExt};
@@ -9,11 +9,9 @@ use walks::block_iter::{BlockIter, DataBlock};
 impl<T: LevelMasksIterExt> Walk<DataBlock> for BlockIter<T> {
     ghost all = { λ w. announced (T.LevelMasks.top w.set) (T.LevelMasks.middle w.set) (T.LevelMasks.word w.set) };
 
-    ghost left = { λ w. block_list (T.LevelMasks.word w.set) (pairs_of T.LevelMasks.middle w) };
+    ghost left = { λ w. block_list (T.LevelMasks.word w.set) (pairs_of w) };
 
     ghost cut = { reaching };
-
-    ghost sane = { λ w. Sane T.LevelMasks.ok T.LevelMasksIterExt.prepared w };
 
     fn step(&mut self) -> Option<DataBlock> {
         self.next()

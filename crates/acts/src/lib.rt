@@ -36,20 +36,13 @@ pub trait Walk<I> {
     // what a seek to a number leaves of all
     ghost cut: { ℕ → List I → List I };
 
-    // what its own calls keep, and rely on
-    ghost sane: { Self → Type 0 };
-
     /// The first of what is left, or nothing where nothing is left.
     fn step(&mut self) -> Option<I>
-        requires { sane self.old }
-        ensures stays { sane self.new }
         ensures same { all self.new ≡ all self.old }
         ensures taken { Taken (left self.old) result (left self.new) };
 
     /// Goes to s, forward or back.
     fn seek(&mut self, s: usize)
-        requires { sane self.old }
-        ensures stays { sane self.new }
         ensures same { all self.new ≡ all self.old }
         ensures goes { left self.new ≡ cut s (all self.old) };
 }
@@ -66,8 +59,6 @@ pub trait Acts<I> {
 
     /// Asks the list of a walk.
     fn walk<W: Walk<I>>(self, walk: &mut W) -> Self::Answers
-        requires { W.Walk.sane walk.old }
-        ensures stays { W.Walk.sane walk.new }
         ensures same { W.Walk.all walk.new ≡ W.Walk.all walk.old }
         ensures says { shown result ≡ answers W.Walk.cut (W.Walk.all walk.old) (W.Walk.left walk.old) (acts self) };
 }
@@ -126,7 +117,6 @@ impl<I, R: Acts<I>> Acts<I> for ThenSeek<R> {
 
 /// The answers of a new walk over the members of an operand: they depend on the members alone.
 pub fn indices_of<T: LevelMasksIterExt + Drop, A: Acts<usize>>(set: T, acts: A) -> A::Answers
-    requires { T.LevelMasks.ok set }
     ensures { A.Acts.shown result ≡ answers from (listed (members (T.LevelMasks.word set))) (listed (members (T.LevelMasks.word set))) (A.Acts.acts acts) }
 {
     let mut walk = IndexIter::new(set);
@@ -135,7 +125,6 @@ pub fn indices_of<T: LevelMasksIterExt + Drop, A: Acts<usize>>(set: T, acts: A) 
 
 /// The answers of a new walk over the blocks of an operand: they depend on its masks and words.
 pub fn announced_of<T: LevelMasksIterExt + Drop, A: Acts<DataBlock>>(set: T, acts: A) -> A::Answers
-    requires { T.LevelMasks.ok set }
     ensures { A.Acts.shown result ≡ answers reaching (announced (T.LevelMasks.top set) (T.LevelMasks.middle set) (T.LevelMasks.word set)) (announced (T.LevelMasks.top set) (T.LevelMasks.middle set) (T.LevelMasks.word set)) (A.Acts.acts acts) }
 {
     let mut walk = BlockIter::new(set);
@@ -144,8 +133,7 @@ pub fn announced_of<T: LevelMasksIterExt + Drop, A: Acts<DataBlock>>(set: T, act
 
 /// The same of a trusted operand, whose answers depend on the members alone.
 pub fn blocks_of<T: LevelMasksIterExt + Drop, A: Acts<DataBlock>>(set: T, acts: A) -> A::Answers
-    requires ok { T.LevelMasks.ok set }
-    requires trusted { T.LevelMasks.trusted ≡ true }
+    requires { T.LevelMasks.trusted ≡ true }
     ensures { A.Acts.shown result ≡ answers reaching (filled (members (T.LevelMasks.word set))) (filled (members (T.LevelMasks.word set))) (A.Acts.acts acts) }
 {
     set.rules();

@@ -1,20 +1,16 @@
 //! Replays stored calls and answers of the Rust crate and counts the answers that differ.
 #![tactic(auto)]
 
-ghost use Rattle.std.specs.Prelude.{◌≤◌, length};
-ghost use Rattle.bitset.specs.Sets.{Sound};
-
-use anyhow::anyhow;
+use anyhow::bail;
 use bitset::BitSet;
-use pool::block::Block;
-use pool::level::Level;
+use memory::Memory;
 use roll::Refusal;
 use std::alloc::Global;
 use std::io;
+use stored::{OLD_BLOCK, OLD_WORD, read_answer, read_lines, tell_none_differs};
 
 #[derive(Clone, Copy)]
 enum Call {
-    New(usize, usize),
     Insert(usize),
     InsertBlock(usize, u64),
     Remove(usize),
@@ -22,186 +18,93 @@ enum Call {
     Used,
 }
 
-#[derive(Clone, Copy, PartialEq, Eq)]
-enum Answer {
-    Accepted,
-    Refused(u64),
-    Yes,
-    No,
-    Counts(usize, usize),
-}
+// What a call answers; the counts are of groups and of blocks.
+type Answer = stored::Answer<(usize, usize)>;
 
 #[derive(Clone, Copy)]
-struct Line {
-    call: Call,
-    answer: Answer,
-}
-
-// What the slices hold before they are lent.
-const OLD_BLOCK: Block = Block {
-    mask: 0x5555_5555_5555_5555,
-    slots: [65535; 64],
-};
-
-const OLD_WORD: u64 = 0xdead_beef_dead_beef;
-
-fn number(field: Option<&str>) -> Option<u64> {
-    match field?.parse::<u64>() {
-        Ok(n) => Some(n),
-        Err(_) => None,
-    }
-}
-
-fn index(field: Option<&str>) -> Option<usize> {
-    Some(number(field)? as usize)
-}
-
-fn answer_of(field: Option<&str>) -> Option<Answer> {
-    match field? {
-        "y" => Some(Answer::Yes),
-        "n" => Some(Answer::No),
-        "0" => Some(Answer::Accepted),
-        other => Some(Answer::Refused(number(Some(other))?)),
-    }
+enum Line {
+    // A new set, over pools with so many slots for groups and for blocks.
+    New(u32, u32),
+    Asked(Call, Answer),
 }
 
 fn read_line(text: &str) -> Option<Line> {
     let mut f = text.split(' ');
-    let op = f.next()?;
-    let a = f.next();
-    let b = f.next();
-    let c = f.next();
-    let line = match op {
-        "s" => Line {
-            call: Call::New(index(a)?, index(b)?),
-            answer: Answer::Accepted,
-        },
-        "i" => Line {
-            call: Call::Insert(index(a)?),
-            answer: answer_of(b)?,
-        },
-        "b" => Line {
-            call: Call::InsertBlock(index(a)?, number(b)?),
-            answer: answer_of(c)?,
-        },
-        "r" => Line {
-            call: Call::Remove(index(a)?),
-            answer: answer_of(b)?,
-        },
-        "c" => Line {
-            call: Call::Contains(index(a)?),
-            answer: answer_of(b)?,
-        },
-        "u" => Line {
-            call: Call::Used,
-            answer: Answer::Counts(index(a)?, index(b)?),
-        },
+    let line = match (f.next()?, f.next(), f.next(), f.next()) {
+        ("s", Some(p), Some(q), None) => Line::New(p.parse().ok()?, q.parse().ok()?),
+        ("i", Some(n), Some(r), None) => Line::Asked(
+            Call::Insert(n.parse().ok()?),
+            read_answer(r)?,
+        ),
+        ("b", Some(start), Some(word), Some(r)) => Line::Asked(
+            Call::InsertBlock(start.parse().ok()?, word.parse().ok()?),
+            read_answer(r)?,
+        ),
+        ("r", Some(n), Some(r), None) => Line::Asked(
+            Call::Remove(n.parse().ok()?),
+            read_answer(r)?,
+        ),
+        ("c", Some(n), Some(r), None) => Line::Asked(
+            Call::Contains(n.parse().ok()?),
+            read_answer(r)?,
+        ),
+        ("u", Some(g), Some(b), None) => Line::Asked(
+            Call::Used,
+            Answer::Counts((g.parse().ok()?, b.parse().ok()?)),
+        ),
         _ => return None,
     };
     Some(line)
 }
 
-fn yes_no(b: bool) -> Answer {
-    if b { Answer::Yes } else { Answer::No }
-}
-
-fn change(r: Result<(), Refusal>) -> Answer {
-    match r {
-        Ok(()) => Answer::Accepted,
-        Err(e) => Answer::Refused(u64::from(e.number())),
-    }
-}
-
 // What the port answers.
-fn ask(set: &mut BitSet, call: Call) -> Answer
-    requires { Sound set.old }
-    ensures { Sound set.new }
-{
+fn ask(set: &mut BitSet, call: Call) -> Answer {
     match call {
-        Call::Insert(n) => change(set.insert(n)),
-        Call::InsertBlock(start, word) => change(set.insert_block(start, word)),
-        Call::Remove(n) => match set.remove(n) {
-            Ok(was) => yes_no(was),
-            Err(e) => Answer::Refused(u64::from(e.number())),
-        },
-        Call::Contains(n) => yes_no(set.contains(n)),
-        Call::Used => {
-            let (groups, blocks) = set.used();
-            Answer::Counts(groups, blocks)
-        }
-        Call::New(_, _) => Answer::Refused(0),
+        Call::Insert(n) => set.insert(n).into(),
+        Call::InsertBlock(start, word) => set.insert_block(start, word).into(),
+        Call::Remove(n) => set.remove(n).into(),
+        Call::Contains(n) => Answer::Said(set.contains(n)),
+        Call::Used => Answer::Counts(set.used()),
     }
 }
 
-// Runs the calls on a set over slices full of old data; how many answers differ.
-fn replay(heap: Global, p: usize, q: usize, lines: &[Line]) -> anyhow::Result<usize>
-    requires { (p ≤ 4096) × (q ≤ 4096) }
-{
-    let mut level1 = vec![in heap; OLD_BLOCK; p + 1]?;
-    let mut words = vec![in heap; OLD_WORD; q + 1]?;
-    let upper = Level::new(level1.as_mut_slice());
-    let lower = Level::new(words.as_mut_slice());
-    let mut set = BitSet::new(upper, lower);
-    let mut differ = 0usize;
-    for line in lines {
-        if ask(&mut set, line.call) != line.answer {
-            differ = differ.saturating_add(1);
-        }
-    }
+// Asks the lines of a set over slices full of old data; how many answers differ.
+fn replay(heap: Global, p: u32, q: u32, lines: &[Line]) -> anyhow::Result<usize> {
+    let mut memory = Memory::new(heap, p, q, OLD_BLOCK, OLD_WORD)?;
+    let mut set = memory.set();
+    let differ = lines
+        .iter()
+        .filter(|line| match **line {
+            Line::Asked(call, answer) => ask(&mut set, call) != answer,
+            Line::New(_, _) => true,
+        })
+        .count();
     Ok(differ)
 }
 
-// Where the calls that begin at a place end: at the next new set, or at the end.
-fn run_end(lines: &[Line], from: usize) -> usize
-    requires { from ≤ length lines.now }
-    ensures { (from ≤ result) × (result ≤ length lines.now) }
-{
-    for i in from..lines.len() {
-        if let Call::New(_, _) = lines[i].call {
-            return i;
-        }
-    }
-    lines.len()
-}
-
-fn all_lines(heap: Global, text: &str) -> anyhow::Result<Vec<Line>> {
-    let mut lines = Vec::new(heap);
-    for s in text.lines() {
-        match read_line(s) {
-            Some(line) => lines.push(line)?,
-            None => return Err(anyhow!(format!(in heap; "cannot read: {s}")?)),
-        }
-    }
-    Ok(lines)
-}
-
+// Replays run by run, where each begins with its pools.
 fn compare(rt: &HostRuntime, lines: &[Line]) -> anyhow::Result<usize> {
     let mut differ = 0usize;
-    let mut at = 0usize;
-    while at < lines.len() {
-        let Call::New(p, q) = lines[at].call else {
-            return Err(anyhow!("a run begins with its pools"));
+    for run in lines.chunk_by(|_, next| !matches!(next, Line::New(_, _))) {
+        let [Line::New(p, q), asked @ ..] = run else {
+            bail!("a run begins with its pools");
         };
-        if p > 4096 || q > 4096 {
-            return Err(anyhow!("a pool has at most 4096 slots here"));
+        if *p > 4096 || *q > 4096 {
+            bail!("a pool has at most 4096 slots here");
         }
-        let end = run_end(lines, at + 1);
-        let calls = end - at - 1;
-        let d = replay(rt.alloc(), p, q, &lines[at + 1..end])?;
-        println!(rt; "slots for groups {p}, for blocks {q}: {calls} calls, {d} differ")?;
+        let d = replay(rt.alloc(), *p, *q, asked)?;
+        println!(rt;
+            "slots for groups {p}, for blocks {q}: {} calls, {d} differ",
+            asked.len()
+        )?;
         differ = differ.saturating_add(d);
-        at = end;
     }
     Ok(differ)
 }
 
 fn main(rt: HostRuntime) -> anyhow::Result<()> {
     let text = io::read_to_string(rt.alloc(), rt.stdin())?;
-    let lines = all_lines(rt.alloc(), text.as_str())?;
+    let lines = read_lines(rt.alloc(), text.as_str(), read_line)?;
     let differ = compare(&rt, lines.as_slice())?;
-    if differ > 0 {
-        return Err(anyhow!("answers differ"));
-    }
-    println!(rt; "no answer differs")?;
-    Ok(())
+    tell_none_differs(&rt, differ)
 }

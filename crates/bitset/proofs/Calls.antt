@@ -1,5 +1,5 @@
 -- From what a change leaves of the tree to the roll's answer and the roll after it.
-use Rattle.std.proofs.Common.{◌≡◌, ℕ, ◌-◌, ◌/◌, ◌%◌, ◌^◌, ◌<◌, Bool, true, false, cond, ◌&&◌, ◌||◌, eqb, ltb, leb, sym, refl, ap, ◌∙◌, subst, ⊎_elim}
+use Rattle.std.proofs.Common.{◌≡◌, ℕ, ◌-◌, ◌/◌, ◌%◌, ◌^◌, ◌<◌, Bool, true, false, cond, ◌&&◌, ◌||◌, eqb, ltb, leb, sym, refl, ap, ◌∙◌, ⊎_elim}
 use mathlib.Core.Path.{fun_ext}
 use lib.Bits.{bit_and, bit_or, or_lt}
 use Rattle.std.proofs.lemmas.Bool.{cases_Bool, eq-eqb}
@@ -46,7 +46,6 @@ fitting_room s i j v t li lj fv p X e =
 pub record Gained (s s' : Tree) (call : Call) (o : Answer) : Type 0 where
   pub says : o ≡ answer (tree_roll s) call
   pub leaves : tree_roll s' ≡ after (tree_roll s) call
-  pub sound : Sound s'
 
 pub gained : (s s' : Tree) (call : Call) (o : Answer) (i j w : ℕ) → Sound s → i < 64 → j < 64 → w < 2 ^ 64 → 0 < w → o ≡ room s i j → (refuses o ≡ false → Put s s' i j (bit_or (word s i j) w)) → (refuses o ≡ true → s' ≡ s) → ((m : ℕ) → made (members (word s)) call m ≡ members (over (word s) i j (bit_or (word s i j) w)) m) → answer (tree_roll s) call ≡ fitting (slots1 s) (slots2 s) (made (members (word s)) call) → Gained s s' call o
 gained s s' call o i j w t li lj fw p er put kept em ea =
@@ -60,14 +59,12 @@ gained s s' call o i j w t li lj fw p er put kept em ea =
     record {
       says = says;
       leaves = ap tree_roll e ∙ sym (ap (λ b. cond b (tree_roll s) (rolled M (slots1 s) (slots2 s))) (ap refuses (sym says) ∙ x));
-      sound = subst Sound (sym e) t;
     })
     (λ (x : refuses o ≡ false).
     let q = put x in
     record {
       says = says;
       leaves = put_roll s s' i j v M q em ∙ sym (ap (λ b. cond b (tree_roll s) (rolled M (slots1 s) (slots2 s))) (ap refuses (sym says) ∙ x));
-      sound = q.sound;
     })
     (cases_Bool (refuses o))
 

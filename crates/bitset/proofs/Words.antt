@@ -1,5 +1,5 @@
 -- From the merged words of a tree to the roll's answer and the roll after it.
-use Rattle.std.proofs.Common.{◌≡◌, ℕ, ◌-◌, ◌/◌, ◌%◌, ◌^◌, ◌<◌, Bool, true, false, cond, ◌&&◌, ◌||◌, eqb, ltb, leb, sym, refl, ap, ◌∙◌, subst, ⊎_elim}
+use Rattle.std.proofs.Common.{◌≡◌, ℕ, ◌-◌, ◌/◌, ◌%◌, ◌^◌, ◌<◌, Bool, true, false, cond, ◌&&◌, ◌||◌, eqb, ltb, leb, sym, refl, ap, ◌∙◌, ⊎_elim}
 use mathlib.Core.Path.{fun_ext}
 use lib.Bits.{bit_and, bit_or, or_lt}
 use Rattle.std.proofs.lemmas.Bool.{cases_Bool}
@@ -57,7 +57,6 @@ union_fits s x t f =
 pub record Joined (s s' : Tree) (call : Merge) (o : Answer) : Type 0 where
   pub says : o ≡ merge_answer (tree_roll s) call
   pub leaves : tree_roll s' ≡ merge_after (tree_roll s) call
-  pub sound : Sound s'
 
 pub unites : (s s' : Tree) (x : ℕ → ℕ → ℕ) (o : Answer) → Sound s → ((i j : ℕ) → x i j < 2 ^ 64) → o ≡ verdict s x → (refuses o ≡ false → Merged bit_or all x s s') → (refuses o ≡ true → s' ≡ s) → Joined s s' (Unite (members x)) o
 unites s s' x o t f er put kept =
@@ -68,10 +67,10 @@ unites s s' x o t f er put kept =
     ⊎_elim
     (λ (y : refuses o ≡ true).
     let e = kept y in
-    record { says = says; leaves = ap tree_roll e ∙ sym (which true y); sound = subst Sound (sym e) t })
+    record { says = says; leaves = ap tree_roll e ∙ sym (which true y) })
     (λ (y : refuses o ≡ false).
     let g = put y in
-    record { says = says; leaves = merged_roll bit_or x M s s' g (union_members (word s) x) ∙ sym (which false y); sound = g.sound })
+    record { says = says; leaves = merged_roll bit_or x M s s' g (union_members (word s) x) ∙ sym (which false y) })
     (cases_Bool (refuses o))
 
 pub cuts : (s s' : Tree) (x : ℕ → ℕ → ℕ) → Merged bit_and all x s s' → tree_roll s' ≡ merge_after (tree_roll s) (Intersect (members x))

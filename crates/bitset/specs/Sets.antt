@@ -5,7 +5,6 @@ use Rattle.roll.specs.Roll.{Roll}
 use Rattle.pool.specs.declared.level.Level.{Level}
 use Rattle.tree.specs.declared.Tree.{Tree}
 use Rattle.tree.specs.Trees.{word}
-use Rattle.tree.specs.Trees as trees
 use Rattle.bitset.specs.declared.BitSet.{BitSet}
 
 -- how many slots a pool has beside slot 0
@@ -18,7 +17,3 @@ tree_roll t = record { has = members (word t); P = slots_of t.level1; Q = slots_
 
 abbrev pub roll_of : BitSet → Roll
 roll_of s = tree_roll s.tree
-
--- what making a set gives, and its calls require and keep
-abbrev pub Sound : BitSet → Type 0
-Sound s = trees.Sound s.tree

@@ -5,7 +5,7 @@ ghost use Rattle.roll.specs.Roll.{refuses};
 ghost use Rattle.roll.specs.Merges.{merge_answer, merge_after, Unite, Intersect};
 ghost use Rattle.roll.specs.Answers.{outcome};
 ghost use Rattle.tree.specs.Steps.{Lent};
-ghost use Rattle.bitset.specs.Sets.{Sound, roll_of};
+ghost use Rattle.bitset.specs.Sets.{roll_of};
 
 use super::BitSet;
 use operands::bitset_interface::{LevelMasks, LevelMasksIterExt};
@@ -15,12 +15,9 @@ impl<'a> BitSet<'a> {
     /// The set gains the operand's members. It is refused only where the union itself does not fit the pools; what
     /// the operand's masks announce in vain takes no slot.
     pub fn unite<X: LevelMasksIterExt>(&mut self, x: &X) -> Result<(), Refusal>
-        requires sound { Sound self.old }
-        requires operand { X.LevelMasks.ok x.now }
         ensures answer { outcome result ≡ merge_answer (roll_of self.old) (Unite (members (X.LevelMasks.word x.now))) }
         ensures roll { roll_of self.new ≡ merge_after (roll_of self.old) (Unite (members (X.LevelMasks.word x.now))) }
         ensures kept { refuses (outcome result) ≡ true → self.new ≡ self.old }
-        ensures sound { Sound self.new }
         ensures lent { Lent self.old.tree self.new.tree }
     {
         x.rules();
@@ -30,10 +27,7 @@ impl<'a> BitSet<'a> {
     /// The set keeps those of its members that the operand has. It is never refused; the slots of what becomes
     /// empty are freed.
     pub fn intersect<X: LevelMasksIterExt>(&mut self, x: &X)
-        requires sound { Sound self.old }
-        requires operand { X.LevelMasks.ok x.now }
         ensures roll { roll_of self.new ≡ merge_after (roll_of self.old) (Intersect (members (X.LevelMasks.word x.now))) }
-        ensures sound { Sound self.new }
         ensures lent { Lent self.old.tree self.new.tree }
     {
         merge::intersect(&mut self.tree, x)

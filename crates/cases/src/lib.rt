@@ -9,25 +9,9 @@ mod tests {
     use bits::bit_queue::zero_first_n;
     use bits::level_indices;
     use bitset::BitSet;
-    use pool::block::Block;
-    use pool::level::{Level, check_blocks};
-    use roll::Refusal;
-
-    // what a slice may hold before it is lent
-    const OLD_BLOCK: Block = Block {
-        mask: 0x5555_5555_5555_5555,
-        slots: [65535; 64],
-    };
-
-    const OLD_WORD: u64 = 0xdead_beef_dead_beef;
-
-    // 0 for a change that was accepted, or the refusal's number
-    fn code(r: Result<(), Refusal>) -> u8 {
-        match r {
-            Ok(()) => 0,
-            Err(e) => e.number(),
-        }
-    }
+    use pool::level::check_blocks;
+    use roll::code;
+    use stored::{OLD_BLOCK, OLD_WORD};
 
     #[test]
     fn places(rt: HostRuntime) {
@@ -42,17 +26,15 @@ mod tests {
     fn two_groups_three_blocks(rt: HostRuntime) {
         let mut level1 = [OLD_BLOCK; 3];
         let mut words = [OLD_WORD; 4];
-        let a = Level::new(&mut level1);
-        let b = Level::new(&mut words);
-        let mut s = BitSet::new(a, b);
+        let mut s = BitSet::over(&mut level1, &mut words);
         assert_eq!(rt; code(s.insert(5)), 0);
         assert_eq!(rt; code(s.insert(70)), 0);
         assert_eq!(rt; code(s.insert(5000)), 0);
         assert_eq!(rt; code(s.insert(200)), 4);
         assert_eq!(rt; code(s.insert(9000)), 3);
         assert_eq!(rt; s.used(), (2, 3));
-        assert!(rt; matches!(s.remove(70), Ok(true)));
-        assert!(rt; matches!(s.remove(70), Ok(false)));
+        assert_eq!(rt; s.remove(70), Ok(true));
+        assert_eq!(rt; s.remove(70), Ok(false));
         assert_eq!(rt; code(s.insert(200)), 0);
         assert!(rt; s.contains(5) && s.contains(200) && s.contains(5000));
         assert!(rt; !s.contains(70) && !s.contains(9000) && !s.contains(262144));
@@ -62,12 +44,10 @@ mod tests {
     fn one_of_each(rt: HostRuntime) {
         let mut level1 = [OLD_BLOCK; 2];
         let mut words = [OLD_WORD; 2];
-        let a = Level::new(&mut level1);
-        let b = Level::new(&mut words);
-        let mut s = BitSet::new(a, b);
+        let mut s = BitSet::over(&mut level1, &mut words);
         assert_eq!(rt; code(s.insert(262143)), 0);
         assert_eq!(rt; code(s.insert(262144)), 1);
-        assert!(rt; matches!(s.remove(262143), Ok(true)));
+        assert_eq!(rt; s.remove(262143), Ok(true));
         assert_eq!(rt; code(s.insert_block(262016, 3)), 0);
         assert!(rt; s.contains(262016) && s.contains(262017));
         assert_eq!(rt; code(s.insert_block(262080, 1)), 1);

@@ -1,6 +1,5 @@
 //! Worked cases of combinations and walks.
 ghost use Rattle.std.specs.Prelude.{◌<◌, length};
-ghost use Rattle.bitset.specs.Sets.{Sound};
 
 use bitset::BitSet;
 use custom::{Band, Nor};
@@ -8,22 +7,18 @@ use operands::apply::Apply;
 use operands::bitset_interface::{LevelMasks, LevelMasksIterExt, contains};
 use ops::{And, BitSetOp, Or, Xor};
 use pool::block::Block;
-use pool::level::Level;
 use view::View;
-use walks::block_iter::BlockIter;
+use walks::block_iter::{BlockIter, DataBlock};
 use walks::index_iter::IndexIter;
 
 // A set with these members.
 fn set_of<'a>(level1: &'a mut [Block], words: &'a mut [u64], members: [usize; 3]) -> BitSet<'a>
     requires { (0 < length level1.old) × (0 < length words.old) }
-    ensures { Sound result }
 {
-    let upper = Level::new(level1);
-    let lower = Level::new(words);
-    let mut s = BitSet::new(upper, lower);
-    let _ = s.insert(members[0]);
-    let _ = s.insert(members[1]);
-    let _ = s.insert(members[2]);
+    let mut s = BitSet::over(level1, words);
+    for member in members {
+        let _ = s.insert(member);
+    }
     s
 }
 
@@ -40,16 +35,24 @@ fn equal_sets_under_xor(rt: HostRuntime) {
     }; 2];
     let mut words = [9u64; 3];
     let s = set_of(&mut blocks, &mut words, [5, 70, 5]);
-    let x = Apply {
-        op: Xor,
-        s1: View::new(&s),
-        s2: View::new(&s),
-    };
+    let x = Apply::new(Xor, View::new(&s), View::new(&s));
     assert_eq!(rt; x.level1_mask(0), 3);
     assert!(rt; !contains(&x, 5) && !contains(&x, 262144));
     let mut walk = BlockIter::new(x);
-    assert!(rt; matches!(walk.next(), Some(b) if b.start_index == 0 && b.bit_block == 0));
-    assert!(rt; matches!(walk.next(), Some(b) if b.start_index == 64 && b.bit_block == 0));
+    assert_eq!(rt;
+        walk.next(),
+        Some(DataBlock {
+            start_index: 0,
+            bit_block: 0
+        })
+    );
+    assert_eq!(rt;
+        walk.next(),
+        Some(DataBlock {
+            start_index: 64,
+            bit_block: 0
+        })
+    );
     assert!(rt; walk.next().is_none());
     let mut indices = IndexIter::new(x);
     assert_eq!(rt; indices.next(), None);
@@ -85,51 +88,23 @@ fn constants(rt: HostRuntime) {
     let mut words = [9u64; 4];
     let s = set_of(&mut blocks, &mut words, [5, 200, 5000]);
     let v = View::new(&s);
-    let or = Apply {
-        op: Or,
-        s1: v,
-        s2: v,
-    };
-    let and = Apply {
-        op: And,
-        s1: v,
-        s2: v,
-    };
+    let or = Apply::new(Or, v, v);
+    let and = Apply::new(And, v, v);
     let band = Band { group: 3, word: 1 };
     assert!(rt; constant_agrees(&v) && constant_agrees(&band));
     assert!(rt; constant_agrees(&or) && constant_agrees(&and));
-    assert!(rt;
-        constant_agrees(&Apply {
-            op: Or,
-            s1: or,
-            s2: and,
-        },)
-    );
-    assert!(rt;
-        constant_agrees(&Apply {
-            op: Or,
-            s1: v,
-            s2: band,
-        },)
-    );
+    assert!(rt; constant_agrees(&Apply::new(Or, or, and),));
+    assert!(rt; constant_agrees(&Apply::new(Or, v, band),));
 }
 
 #[test]
 fn a_users_own(rt: HostRuntime) {
     let band = Band { group: 3, word: 6 };
-    let none = Apply {
-        op: Nor,
-        s1: band,
-        s2: band,
-    };
+    let none = Apply::new(Nor, band, band);
     assert!(rt; contains(&band, 12289) && !contains(&band, 1));
     assert!(rt; !contains(&none, 12289) && contains(&none, 262143));
     assert!(rt; !contains(&none, 262144));
-    let mut walk = IndexIter::new(Apply {
-        op: And,
-        s1: band,
-        s2: none,
-    });
+    let mut walk = IndexIter::new(Apply::new(And, band, none));
     assert_eq!(rt; walk.next(), None);
     let mut rest = IndexIter::new(none);
     rest.move_to(12288);

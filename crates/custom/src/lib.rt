@@ -16,11 +16,11 @@ pub struct Nor;
 impl BitSetOp for Nor {
     const TRUSTED: bool = false;
 
+    ghost TRUSTED = { false };
+
     ghost masks = { λ a b. 2 ^ 64 - 1 };
 
     ghost words = { λ a b. 2 ^ 64 - 1 - bit_or a b };
-
-    ghost trusted = { false };
 
     ghost masksfit = { Prim.search rules };
 
@@ -31,10 +31,6 @@ impl BitSetOp for Nor {
     ghost covering = { nor_covering };
 
     ghost exact = { Prim.search rules };
-
-    fn is_trusted() -> bool {
-        Self::TRUSTED
-    }
 
     fn hierarchy_op(_left: u64, _right: u64) -> u64 {
         u64::MAX
@@ -71,8 +67,6 @@ impl LevelMasks for Band {
     ghost word = { λ s i j. banded s.group s.word i j };
 
     ghost trusted = { false }; // most of what it announces is not there
-
-    ghost ok = { λ s. Unit {0} };
 
     fn rules(&self) {
         let _ = self.cells();

@@ -1,19 +1,23 @@
 //! Runs a shift on the coverage set and tells each step.
 #![tactic(auto)]
 
-ghost use Rattle.std.specs.Prelude.{◌<◌, ◌≤◌, length, IfOk};
-ghost use Rattle.bitset.specs.Sets.{Sound};
+ghost use Rattle.std.specs.Prelude.{◌≤◌, IfOk};
 
-use anyhow::anyhow;
+mod crew;
+mod fault;
+mod line;
+
 use bitset::BitSet;
+use crew::{Crew, Seat};
+use fault::{BadLine, Fault};
 use job::{Report, act};
+use line::Line;
+use memory::Memory;
 use operands::apply::Apply;
-use operands::bitset_interface::{LevelMasks, LevelMasksIterExt, contains};
+use operands::bitset_interface::{LevelMasksIterExt, contains};
 use ops::{And, Or, Sub};
 use pool::block::Block;
-use pool::level::Level;
-use shift::{Step, read_step};
-use std::alloc::Global;
+use shift::Step;
 use std::process::ExitCode;
 use std::{env, fs, io};
 use view::View;
@@ -22,7 +26,7 @@ use walks::index_iter::IndexIter;
 // The largest pool that a shift may ask for: a slot for each of the 64 * 64 blocks.
 const MOST_SLOTS: u64 = 4096;
 
-// What the slices hold before they are lent.
+// What the memory holds before it is lent.
 const EMPTY: Block = Block {
     mask: 0,
     slots: [0; 64],
@@ -83,268 +87,176 @@ fn run(rt: &HostRuntime) -> anyhow::Result<ExitCode> {
     }
 }
 
-// The error of a line that cannot be read.
-fn amiss(heap: Global, line: usize, expected: &str) -> anyhow::Error {
-    match format!(in heap; "line {line}: expected {expected}") {
-        Ok(text) => anyhow!(text),
-        Err(_) => anyhow!("no memory"),
-    }
+// The first step: the number of its line, and each machine's slots.
+struct Pools {
+    line: usize,
+    groups: u32,
+    blocks: u32,
 }
 
-// One line as a step.
-fn step_at(heap: Global, line: usize, text: &str) -> anyhow::Result<Step> {
-    match read_step(text.as_bytes()) {
-        Ok(step) => Ok(step),
-        Err(e) => Err(amiss(heap, line, e.message())),
-    }
-}
-
-// The first step, which gives the pools' sizes, and the number of its line.
-fn first_step(heap: Global, text: &str) -> anyhow::Result<(usize, usize, usize)>
-    ensures { IfOk result (λ v. (v.1 ≤ 4096) × (v.2 ≤ 4096)) }
+// The first step, which gives the pools' sizes, or what is amiss in the lines up to it.
+fn first_step(text: &str) -> Result<Pools, BadLine>
+    ensures { IfOk result (λ p. (p.groups ≤ MOST_SLOTS) × (p.blocks ≤ MOST_SLOTS)) }
 {
-    let mut line = 0usize;
-    for s in text.lines() {
-        line = line.saturating_add(1);
-        match step_at(heap, line, s)? {
+    for (i, text) in text.lines().enumerate() {
+        let line = Line {
+            number: i + 1,
+            text,
+        };
+        match line.step()? {
             Step::Nothing => {}
-            Step::Pools(p, q) => {
-                if p > MOST_SLOTS || q > MOST_SLOTS {
-                    return Err(amiss(heap, line, "pools of at most 4096 slots"));
-                }
-                return Ok((line, p as usize, q as usize));
+            Step::Pools(p, q) if p <= MOST_SLOTS && q <= MOST_SLOTS => {
+                return Ok(Pools {
+                    line: line.number,
+                    groups: p as u32,
+                    blocks: q as u32,
+                });
             }
-            _ => return Err(amiss(heap, line, "pools P Q as the first step")),
+            Step::Pools(_, _) => return Err(line.bad(Fault::PoolsTooLarge)),
+            _ => return Err(line.bad(Fault::PoolsFirst)),
         }
     }
-    Err(amiss(heap, line.saturating_add(1), "pools P Q as the first step"))
-}
-
-// The two machines of a shift, in the order in which they came, and whether the second one's marks follow.
-#[derive(Clone, Copy)]
-struct Crew {
-    first: Option<u64>,
-    second: Option<u64>,
-    at_second: bool,
-}
-
-impl Crew {
-    // Machine m's marks follow; false where two others are there already.
-    fn seat(&mut self, m: u64) -> bool {
-        if self.first == None || self.first == Some(m) {
-            self.first = Some(m);
-            self.at_second = false;
-            return true;
-        }
-        if self.second == None || self.second == Some(m) {
-            self.second = Some(m);
-            self.at_second = true;
-            return true;
-        }
-        false
-    }
+    Err(BadLine {
+        line: text.lines().count() + 1,
+        fault: Fault::PoolsFirst,
+    })
 }
 
 // Runs the shift and tells what the map holds at its end.
 fn tell(rt: &HostRuntime, text: &str) -> anyhow::Result<()> {
-    let heap = rt.alloc();
-    let (line, p, q) = first_step(heap, text)?;
+    let Pools {
+        line,
+        groups,
+        blocks,
+    } = first_step(text)?;
     println!(rt;
-        "line {line}: two machines' maps, each with slots for groups {p}, for blocks {q}"
+        "line {line}: two machines' maps, each with slots for groups {groups}, for blocks {blocks}"
     )?;
-    let mut blocks_a = vec![in heap; EMPTY; p + 1]?;
-    let mut words_a = vec![in heap; 0u64; q + 1]?;
-    let mut blocks_b = vec![in heap; EMPTY; p + 1]?;
-    let mut words_b = vec![in heap; 0u64; q + 1]?;
-    let mut a = new_set(blocks_a.as_mut_slice(), words_a.as_mut_slice());
-    let mut b = new_set(blocks_b.as_mut_slice(), words_b.as_mut_slice());
-    go_on(rt, &mut a, &mut b, text, line)?;
+    let mut first = Memory::new(rt.alloc(), groups, blocks, EMPTY, 0)?;
+    let mut second = Memory::new(rt.alloc(), groups, blocks, EMPTY, 0)?;
+    let mut slope = Slope::new(rt, first.set(), second.set());
+    for (i, text) in text.lines().enumerate().skip(line) {
+        slope.step(Line {
+            number: i + 1,
+            text,
+        })?;
+    }
     print!(rt; "the map at the end:")?;
-    let all = Apply {
-        op: Or,
-        s1: View::new(&a),
-        s2: View::new(&b),
-    };
-    tell_cells(rt, all, 0)
+    slope.tell_map(0)
 }
 
-fn new_set<'a>(level1: &'a mut [Block], words: &'a mut [u64]) -> BitSet<'a>
-    requires { (0 < length level1.old) × (0 < length words.old) }
-    ensures { Sound result }
-{
-    let upper = Level::new(level1);
-    let lower = Level::new(words);
-    BitSet::new(upper, lower)
-}
-
-// The steps after the first.
-fn go_on(
-    rt: &HostRuntime,
-    a: &mut BitSet,
-    b: &mut BitSet,
-    text: &str,
-    first: usize,
-) -> anyhow::Result<()>
-    requires { (Sound a.old) × (Sound b.old) }
-    ensures { (Sound a.new) × (Sound b.new) }
-{
-    let mut crew = Crew {
-        first: None,
-        second: None,
-        at_second: false,
-    };
-    let mut line = 0usize;
-    for s in text.lines() {
-        line = line.saturating_add(1);
-        if line > first {
-            let step = step_at(rt.alloc(), line, s)?;
-            one_step(rt, a, b, &mut crew, line, s, step)?;
-        }
-    }
-    Ok(())
-}
-
-// One step.
-fn one_step(
-    rt: &HostRuntime,
-    a: &mut BitSet,
-    b: &mut BitSet,
-    crew: &mut Crew,
-    line: usize,
-    text: &str,
-    step: Step,
-) -> anyhow::Result<()>
-    requires { (Sound a.old) × (Sound b.old) }
-    ensures { (Sound a.new) × (Sound b.new) }
-{
-    match step {
-        Step::Nothing => Ok(()),
-        Step::Pools(_, _) => Err(amiss(rt.alloc(), line, "pools only as the first step")),
-        Step::Machine(m) => {
-            if !crew.seat(m) {
-                return Err(amiss(rt.alloc(), line, "one of the two machines that came before"));
-            }
-            println!(rt; "line {line}: machine {m}")?;
-            Ok(())
-        }
-        Step::Ask(_) | Step::Cells(_) | Step::Shared(_) | Step::Lacking(_) => look(
-            rt, a, b, *crew, line, text, step,
-        ),
-        Step::Mark(_) | Step::Block(_, _) | Step::Unmark(_) => {
-            if crew.first == None {
-                return Err(amiss(rt.alloc(), line, "machine M before the first mark"));
-            }
-            if crew.at_second {
-                change(rt, b, line, text, step)
-            } else {
-                change(rt, a, line, text, step)
-            }
-        }
-    }
-}
-
-// A change of the present machine's map, with what came of it and the slots in use.
-fn change(
-    rt: &HostRuntime,
-    set: &mut BitSet,
-    line: usize,
-    text: &str,
-    step: Step,
-) -> anyhow::Result<()>
-    requires { Sound set.old }
-    ensures { Sound set.new }
-{
-    let report = act(set, step);
-    let (groups, blocks) = set.used();
-    match report {
-        Report::Idle | Report::Accepted => println!(rt;
-            "line {line}: {text}: accepted; in use: groups {groups}, blocks {blocks}"
-        )?,
-        Report::Answered(true) => println!(rt;
-            "line {line}: {text}: taken back; in use: groups {groups}, blocks {blocks}"
-        )?,
-        Report::Answered(false) => println!(rt;
-            "line {line}: {text}: was bare; in use: groups {groups}, blocks {blocks}"
-        )?,
-        Report::Denied(e) => {
-            let number = e.number();
-            let why = e.message();
-            println!(rt; "line {line}: {text}: refused, {number}: {why}")?;
-        }
-    }
-    Ok(())
-}
-
-// A question about both machines' maps, read through their combinations.
-fn look(
-    rt: &HostRuntime,
-    a: &BitSet,
-    b: &BitSet,
+// Where the steps after the first are run and told: the machines and their maps.
+#[derive(Drop)]
+struct Slope<'a> {
+    rt: &'a HostRuntime,
+    first: BitSet<'a>,
+    second: BitSet<'a>,
     crew: Crew,
-    line: usize,
-    text: &str,
-    step: Step,
-) -> anyhow::Result<()>
-    requires { (Sound a.now) × (Sound b.now) }
-{
-    let one = View::new(a);
-    let two = View::new(b);
-    let map = Apply {
-        op: Or,
-        s1: one,
-        s2: two,
-    };
-    match step {
-        Step::Ask(n) => {
-            let word = if contains(&map, n as usize) {
-                "tilled"
-            } else {
-                "bare"
-            };
-            println!(rt; "line {line}: {text}: {word}")?;
-            Ok(())
+}
+
+impl<'a> Slope<'a> {
+    // Both maps, with no machine there.
+    fn new(rt: &'a HostRuntime, first: BitSet<'a>, second: BitSet<'a>) -> Slope<'a> {
+        Slope {
+            rt,
+            first,
+            second,
+            crew: Crew::default(),
         }
-        Step::Shared(n) => {
-            print!(rt; "line {line}: {text}: both machines tilled, from there on:")?;
-            tell_cells(
-                rt,
-                Apply {
-                    op: And,
-                    s1: one,
-                    s2: two,
-                },
-                n as usize,
-            )
-        }
-        Step::Lacking(n) => {
-            print!(rt; "line {line}: {text}: only the other machine tilled, from there on:")?;
-            if crew.at_second {
-                return tell_cells(
-                    rt,
-                    Apply {
-                        op: Sub,
-                        s1: one,
-                        s2: two,
-                    },
-                    n as usize,
-                );
-            }
-            tell_cells(
-                rt,
-                Apply {
-                    op: Sub,
-                    s1: two,
-                    s2: one,
-                },
-                n as usize,
-            )
-        }
-        Step::Cells(n) => {
-            print!(rt; "line {line}: {text}: the map, from there on:")?;
-            tell_cells(rt, map, n as usize)
-        }
-        _ => Ok(()),
     }
+
+    // What either machine tilled.
+    fn map(&self) -> Apply<Or, View<'_, 'a>, View<'_, 'a>> {
+        Apply::new(Or, View::new(&self.first), View::new(&self.second))
+    }
+
+    // Its members from a cell on.
+    fn tell_map(&self, from: usize) -> anyhow::Result<()> {
+        tell_cells(self.rt, self.map(), from)
+    }
+
+    // Runs one step and tells what came of it.
+    fn step(&mut self, line: Line) -> anyhow::Result<()> {
+        match line.step()? {
+            Step::Nothing => Ok(()),
+            Step::Pools(_, _) => Err(line.bad(Fault::PoolsAgain).into()),
+            Step::Machine(m) => self.seat(line, m),
+            step @ (Step::Mark(_) | Step::Block(_, _) | Step::Unmark(_)) => self.change(line, step),
+            Step::Ask(n) => self.ask(line, n as usize),
+            Step::Cells(n) => self.cells(line, n as usize),
+            Step::Shared(n) => self.shared(line, n as usize),
+            Step::Lacking(n) => self.lacking(line, n as usize),
+        }
+    }
+
+    // The machine whose marks follow.
+    fn seat(&mut self, line: Line, m: u64) -> anyhow::Result<()> {
+        self.crew.seat(m).map_err(|fault| line.bad(fault))?;
+        let number = line.number;
+        println!(self.rt; "line {number}: machine {m}")?;
+        Ok(())
+    }
+
+    // A change of the present machine's map.
+    fn change(&mut self, line: Line, step: Step) -> anyhow::Result<()> {
+        match self.crew.present() {
+            Some(Seat::First) => change(self.rt, &mut self.first, line, step),
+            Some(Seat::Second) => change(self.rt, &mut self.second, line, step),
+            None => Err(line.bad(Fault::NoMachine).into()),
+        }
+    }
+
+    // Is the cell tilled, by either machine?
+    fn ask(&self, line: Line, n: usize) -> anyhow::Result<()> {
+        let word = if contains(&self.map(), n) {
+            "tilled"
+        } else {
+            "bare"
+        };
+        println!(self.rt; "{line}: {word}")?;
+        Ok(())
+    }
+
+    // The cells that either machine tilled.
+    fn cells(&self, line: Line, n: usize) -> anyhow::Result<()> {
+        print!(self.rt; "{line}: the map, from there on:")?;
+        self.tell_map(n)
+    }
+
+    // The cells that both machines tilled.
+    fn shared(&self, line: Line, n: usize) -> anyhow::Result<()> {
+        print!(self.rt; "{line}: both machines tilled, from there on:")?;
+        let both = Apply::new(And, View::new(&self.first), View::new(&self.second));
+        tell_cells(self.rt, both, n)
+    }
+
+    // The cells that the other machine tilled and the present one did not.
+    fn lacking(&self, line: Line, n: usize) -> anyhow::Result<()> {
+        print!(self.rt; "{line}: only the other machine tilled, from there on:")?;
+        let (other, present) = match self.crew.present() {
+            Some(Seat::Second) => (&self.first, &self.second),
+            _ => (&self.second, &self.first),
+        };
+        let lacking = Apply::new(Sub, View::new(other), View::new(present));
+        tell_cells(self.rt, lacking, n)
+    }
+}
+
+// A change of a map, with what came of it and the slots in use.
+fn change(rt: &HostRuntime, set: &mut BitSet, line: Line, step: Step) -> anyhow::Result<()> {
+    let came = match act(set, step) {
+        Ok(Report::Idle | Report::Accepted) => "accepted",
+        Ok(Report::Answered(true)) => "taken back",
+        Ok(Report::Answered(false)) => "was bare",
+        Err(e) => {
+            let number = e.number();
+            println!(rt; "{line}: refused, {number}: {e}")?;
+            return Ok(());
+        }
+    };
+    let (groups, blocks) = set.used();
+    println!(rt; "{line}: {came}; in use: groups {groups}, blocks {blocks}")?;
+    Ok(())
 }
 
 // The members of an operand from a cell on, and how many they are.
@@ -352,13 +264,11 @@ fn tell_cells<T: LevelMasksIterExt + Drop>(
     rt: &HostRuntime,
     set: T,
     from: usize,
-) -> anyhow::Result<()>
-    requires { T.LevelMasks.ok set }
-{
+) -> anyhow::Result<()> {
     let mut walk = IndexIter::new(set);
     walk.move_to(from);
     let mut count = 0usize;
-    while let Some(n) = walk.next() {
+    for n in walk {
         print!(rt; " {n}")?;
         count = count.saturating_add(1);
     }

@@ -1,17 +1,15 @@
 //! The steps of a shift, done on the coverage set.
 #![tactic(auto)]
 
-ghost use Rattle.bitset.specs.Sets.{Sound};
-ghost use Rattle.job.specs.Jobs.{Acts, said};
-ghost use Rattle.roll.specs.Answers.{outcome};
-ghost use Rattle.std.specs.Prelude.{◌≡◌};
+ghost use Rattle.job.specs.Jobs.{Acts};
+ghost use Rattle.std.specs.Prelude.{◌≡◌, OnErr};
 
 use bitset::BitSet;
 use roll::Refusal;
 use shift::Step;
 
-/// What came of a step.
-#[derive(Clone, Copy)]
+/// What came of a step that the set did not refuse.
+#[derive(Clone, Copy, PartialEq, Eq, Debug)]
 pub enum Report {
     /// The step asks nothing of the set.
     Idle,
@@ -19,34 +17,24 @@ pub enum Report {
     Accepted,
     /// Yes or no: whether a cell is tilled, or was before its mark was taken back.
     Answered(bool),
-    /// The set refused, and is as it was.
-    Denied(Refusal),
 }
 
-// What a change with no answer of its own came to.
-fn settled(r: Result<(), Refusal>) -> Report
-    ensures { said result ≡ outcome r }
-{
-    match r {
-        Ok(()) => Report::Accepted,
-        Err(e) => Report::Denied(e),
-    }
-}
-
-/// Does one step on the set.
-pub fn act(set: &mut BitSet, step: Step) -> Report
-    requires { Sound set.old }
+/// Does one step on the set, or leaves the set as it was and says why it refused.
+pub fn act(set: &mut BitSet, step: Step) -> Result<Report, Refusal>
     ensures acts { Acts step result set.old set.new }
-    ensures sound { Sound set.new }
+    ensures kept { OnErr result (set.new ≡ set.old) }
 {
     match step {
-        Step::Mark(n) => settled(set.insert(n as usize)),
-        Step::Block(start, word) => settled(set.insert_block(start as usize, word)),
-        Step::Unmark(n) => match set.remove(n as usize) {
-            Ok(was) => Report::Answered(was),
-            Err(e) => Report::Denied(e),
-        },
-        Step::Ask(n) => Report::Answered(set.contains(n as usize)),
-        _ => Report::Idle,
+        Step::Mark(n) => {
+            set.insert(n as usize)?;
+            Ok(Report::Accepted)
+        }
+        Step::Block(start, word) => {
+            set.insert_block(start as usize, word)?;
+            Ok(Report::Accepted)
+        }
+        Step::Unmark(n) => Ok(Report::Answered(set.remove(n as usize)?)),
+        Step::Ask(n) => Ok(Report::Answered(set.contains(n as usize))),
+        _ => Ok(Report::Idle),
     }
 }

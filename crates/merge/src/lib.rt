@@ -16,14 +16,13 @@ mod additions;
 mod groups;
 
 use additions::check_fits;
-use bits::bit_queue::pop_front;
+use bits::bit_utils::one_bits_iter;
 use groups::{intersect_group, unite_group};
 
 /// Ors every word of x into the tree's, or refuses where the union has more groups or blocks than the pools have
 /// slots, and changes nothing.
 pub fn unite<X: LevelMasksIterExt>(tree: &mut Tree<'_>, x: &X) -> Result<(), Refusal>
-    requires sound { Sound tree.old }
-    requires operand { X.LevelMasks.ok x.now }
+    requires { Sound tree.old }
     ensures answer { outcome result ≡ verdict tree.old (X.LevelMasks.word x.now) }
     ensures words { refuses (outcome result) ≡ false → Merged bit_or all (X.LevelMasks.word x.now) tree.old tree.new }
     ensures kept { refuses (outcome result) ≡ true → tree.new ≡ tree.old }
@@ -31,9 +30,7 @@ pub fn unite<X: LevelMasksIterExt>(tree: &mut Tree<'_>, x: &X) -> Result<(), Ref
 {
     x.rules();
     check_fits(tree, x)?;
-    let announced = x.level0_mask();
-    let mut top = announced;
-    while let Some(i) = pop_front(&mut top) {
+    for i in one_bits_iter(x.level0_mask()) {
         unite_group(tree, x, i);
     }
     Ok(())
@@ -41,13 +38,10 @@ pub fn unite<X: LevelMasksIterExt>(tree: &mut Tree<'_>, x: &X) -> Result<(), Ref
 
 /// Ands every word of the tree with x's; what becomes empty is freed.
 pub fn intersect<X: LevelMasksIterExt>(tree: &mut Tree<'_>, x: &X)
-    requires sound { Sound tree.old }
-    requires operand { X.LevelMasks.ok x.now }
+    requires { Sound tree.old }
     ensures words { Merged bit_and all (X.LevelMasks.word x.now) tree.old tree.new }
 {
-    let own = tree.level0_mask();
-    let mut top = own;
-    while let Some(i) = pop_front(&mut top) {
+    for i in one_bits_iter(tree.level0_mask()) {
         intersect_group(tree, x, i);
     }
 }

@@ -7,7 +7,7 @@ use bits::bit_utils::get_bit;
 use bits::{MAX_CAPACITY, level_indices};
 
 /// An operand: index (i, j, k) is a member when bit k of data word (i, j) is 1.
-/// An i or j of 64 or more reads as the zero word.
+/// An i or j of 64 or more reads as the zero word. What an operand's readings rely on, its type says.
 pub trait LevelMasks {
     /// Whether the masks announce nothing in vain.
     const TRUSTED: bool;
@@ -20,28 +20,21 @@ pub trait LevelMasks {
 
     ghost trusted: { Bool };
 
-    // the values that the implementation's own calls can make
-    ghost ok: { Self → Type 0 };
-
     /// Does nothing: its contract says the cover rule and, where it is owed, the trust rule.
     fn rules(&self)
-        requires { ok self.now }
         ensures { Ruled trusted (top self.now) (middle self.now) (word self.now) };
 
-    /// The constant, as a value that a contract can name.
+    /// The constant, as a value that a contract can name: a constant takes no clause in an impl that has a lifetime.
     fn is_trusted() -> bool
         ensures { result ≡ trusted };
 
     fn level0_mask(&self) -> u64
-        requires { ok self.now }
         ensures { result ≡ top self.now };
 
     fn level1_mask(&self, i: usize) -> u64
-        requires { ok self.now }
         ensures { result ≡ middle self.now i };
 
     fn data_mask(&self, i: usize, j: usize) -> u64
-        requires { ok self.now }
         ensures { result ≡ word self.now i j };
 }
 
@@ -54,19 +47,16 @@ pub trait LevelMasksIterExt: LevelMasks {
 
     /// Middle word i, and a record of group i.
     fn init_level1_block_data(&self, i: usize) -> (u64, Self::Level1BlockData)
-        requires { Self.LevelMasks.ok self.now }
         ensures mask { result.0 ≡ Self.LevelMasks.middle self.now i }
         ensures made { prepared self.now i result.1 };
 
     /// Data word (i, j), by the record of group i. Of a record from elsewhere the answer is some word, left free.
     fn data_mask_from_block_data(&self, block: &Self::Level1BlockData, j: usize) -> u64
-        requires { Self.LevelMasks.ok self.now }
         ensures { (i : ℕ) → prepared self.now i block.now → result ≡ Self.LevelMasks.word self.now i j };
 }
 
 /// Whether an operand has the index; any index may be asked.
 pub fn contains<S: LevelMasks>(s: &S, index: usize) -> bool
-    requires { S.LevelMasks.ok s.now }
     ensures { result ≡ members (S.LevelMasks.word s.now) index }
 {
     if index >= MAX_CAPACITY {

@@ -3,3 +3,4 @@
 
 pub mod apply;
 pub mod bitset_interface;
+mod refs;

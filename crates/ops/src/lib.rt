@@ -12,21 +12,24 @@ pub trait BitSetOp {
     /// Whether the mask answers announce nothing in vain, over operands whose masks do not.
     const TRUSTED: bool;
 
+    ghost TRUSTED: { Bool };
+
     ghost masks: { ℕ → ℕ → ℕ };
 
     ghost words: { ℕ → ℕ → ℕ };
-
-    ghost trusted: { Bool };
-
-    /// The constant, as a value that a contract can name.
-    fn is_trusted() -> bool
-        ensures { result ≡ trusted };
 
     fn hierarchy_op(left: u64, right: u64) -> u64
         ensures { result ≡ masks left right };
 
     fn data_op(left: u64, right: u64) -> u64
         ensures { result ≡ words left right };
+
+    /// The constant, by a call.
+    final fn is_trusted() -> bool
+        ensures { result ≡ TRUSTED }
+    {
+        Self::TRUSTED
+    }
 
     // answers on words are words
     ghost masksfit: { Closed masks };
@@ -40,7 +43,7 @@ pub trait BitSetOp {
     ghost covering: { Covering masks words };
 
     // of a trusted operation: where the mask answer's bit is 1, the data answer is not 0, nor is the mask answer below
-    ghost exact: { Exact trusted masks words };
+    ghost exact: { Exact TRUSTED masks words };
 }
 
 /// What either has.
@@ -50,11 +53,11 @@ pub struct Or;
 impl BitSetOp for Or {
     const TRUSTED: bool = true;
 
+    ghost TRUSTED = { true };
+
     ghost masks = { bit_or };
 
     ghost words = { bit_or };
-
-    ghost trusted = { true };
 
     ghost masksfit = { or_closed };
 
@@ -65,10 +68,6 @@ impl BitSetOp for Or {
     ghost covering = { or_covering };
 
     ghost exact = { or_exact true };
-
-    fn is_trusted() -> bool {
-        Self::TRUSTED
-    }
 
     fn hierarchy_op(left: u64, right: u64) -> u64 {
         left | right // either announces
@@ -84,13 +83,13 @@ impl BitSetOp for Or {
 pub struct And;
 
 impl BitSetOp for And {
-    const TRUSTED: bool = false;
+    const TRUSTED: bool = false; // both may announce a block and share no cell of it
+
+    ghost TRUSTED = { false }; // the same
 
     ghost masks = { bit_and };
 
     ghost words = { bit_and };
-
-    ghost trusted = { false }; // both may announce a block and share no cell of it
 
     ghost masksfit = { Prim.search rules };
 
@@ -101,10 +100,6 @@ impl BitSetOp for And {
     ghost covering = { and_covering };
 
     ghost exact = { Prim.search rules };
-
-    fn is_trusted() -> bool {
-        Self::TRUSTED
-    }
 
     fn hierarchy_op(left: u64, right: u64) -> u64 {
         left & right // both announce
@@ -122,11 +117,11 @@ pub struct Xor;
 impl BitSetOp for Xor {
     const TRUSTED: bool = false;
 
+    ghost TRUSTED = { false };
+
     ghost masks = { bit_or };
 
     ghost words = { bit_xor };
-
-    ghost trusted = { false };
 
     ghost masksfit = { or_closed };
 
@@ -137,10 +132,6 @@ impl BitSetOp for Xor {
     ghost covering = { xor_covering };
 
     ghost exact = { Prim.search rules };
-
-    fn is_trusted() -> bool {
-        Self::TRUSTED
-    }
 
     fn hierarchy_op(left: u64, right: u64) -> u64 {
         left | right // equal words leave an empty block announced
@@ -158,11 +149,11 @@ pub struct Sub;
 impl BitSetOp for Sub {
     const TRUSTED: bool = false;
 
+    ghost TRUSTED = { false };
+
     ghost masks = { λ a b. a };
 
     ghost words = { λ a b. bit_and a (2 ^ 64 - 1 - b) };
-
-    ghost trusted = { false };
 
     ghost masksfit = { Prim.search rules };
 
@@ -173,10 +164,6 @@ impl BitSetOp for Sub {
     ghost covering = { Prim.search rules };
 
     ghost exact = { Prim.search rules };
-
-    fn is_trusted() -> bool {
-        Self::TRUSTED
-    }
 
     fn hierarchy_op(left: u64, _right: u64) -> u64 {
         left

@@ -26,7 +26,7 @@ pub struct Level<'a, B> {
 pub fn check_blocks<B>(blocks: &[B]) -> Result<(), Refusal>
     ensures { outcome result ≡ (if nat_eq (length blocks.now) 0 then Refused 5 else Done) }
 {
-    if blocks.len() == 0 {
+    if blocks.is_empty() {
         return Err(Refusal::NoElement);
     }
     Ok(())
@@ -125,8 +125,7 @@ impl<'a, B: IBlock> Level<'a, B> {
     pub fn size(&self) -> usize
         ensures { result ≡ length self.now.blocks.now }
     {
-        let s = &*self.blocks;
-        s.len()
+        self.blocks.len()
     }
 
     /// The block in slot i.
@@ -134,7 +133,7 @@ impl<'a, B: IBlock> Level<'a, B> {
         requires { i < length self.now.blocks.now }
         ensures { result.now ≡ slice_index_or self.now.blocks.now i B.kind.blank }
     {
-        let s = &*self.blocks;
+        let s = &*self.blocks; // in one step the borrow checker does not cover it yet
         &s[i]
     }
 

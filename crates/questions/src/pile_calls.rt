@@ -20,8 +20,6 @@ impl Asker for Has {
 
     ghost shown = { λ a. asked.Said (rolls.Told a) };
 
-    ghost able = { λ _. Unit {0} };
-
     fn ask<T: LevelMasksIterExt + Drop>(self, pile: T) -> bool {
         contains(&pile, self.0)
     }
@@ -41,8 +39,6 @@ impl<P: Pile> Call for InPile<P> {
 
     ghost shown = { λ a. asked.Said (rolls.Told a) };
 
-    ghost able = { λ c. P.Pile.able c.pile };
-
     fn on(self, set: &mut BitSet<'_>) -> bool {
         let InPile { pile, index } = self;
         pile.with(View::new(set), Has(index))
@@ -59,8 +55,6 @@ impl<A: Acts<usize>> Asker for Walks<A> {
     ghost wants = { λ w M. asked.Listed (asked.index_answers M (A.Acts.acts w.0)) };
 
     ghost shown = { λ a. asked.Listed (A.Acts.shown a) };
-
-    ghost able = { λ _. Unit {0} };
 
     fn ask<T: LevelMasksIterExt + Drop>(self, pile: T) -> A::Answers {
         let Walks(acts) = self;
@@ -81,8 +75,6 @@ impl<P: Pile, A: Acts<usize>> Call for PileWalk<P, A> {
     ghost asks = { λ c. asked.PileIndices (P.Pile.fill c.pile) (A.Acts.acts c.acts) };
 
     ghost shown = { λ a. asked.Listed (A.Acts.shown a) };
-
-    ghost able = { λ c. P.Pile.able c.pile };
 
     fn on(self, set: &mut BitSet<'_>) -> A::Answers {
         let PileWalk { pile, acts } = self;

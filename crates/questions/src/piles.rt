@@ -16,12 +16,7 @@ pub trait Asker {
 
     ghost shown: { Self.Answer → Reply };
 
-    // the operands that it still has to combine can be read
-    ghost able: { Self → Type 0 };
-
     fn ask<T: LevelMasksIterExt + Drop>(self, pile: T) -> Self::Answer
-        requires able { able self }
-        requires pile { T.LevelMasks.ok pile }
         ensures { shown result ≡ wants self (members (T.LevelMasks.word pile)) };
 }
 
@@ -30,13 +25,7 @@ pub trait Pile {
     // the members that the pile makes of the set's members
     ghost fill: { Self → (ℕ → Bool) → ℕ → Bool };
 
-    // its other operands can be read
-    ghost able: { Self → Type 0 };
-
     fn with<S: LevelMasksIterExt + Copy, K: Asker>(self, set: S, asker: K) -> K::Answer
-        requires able { able self }
-        requires set { S.LevelMasks.ok set }
-        requires asker { K.Asker.able asker }
         ensures { K.Asker.shown result ≡ K.Asker.wants asker (fill self (members (S.LevelMasks.word set))) };
 }
 
@@ -46,8 +35,6 @@ pub struct Hole;
 
 impl Pile for Hole {
     ghost fill = { λ _ M. M };
-
-    ghost able = { λ _. Unit {0} };
 
     fn with<S: LevelMasksIterExt + Copy, K: Asker>(self, set: S, asker: K) -> K::Answer {
         asker.ask(set)
@@ -60,8 +47,6 @@ pub struct Other<X>(pub X);
 
 impl<X: LevelMasksIterExt + Drop> Pile for Other<X> {
     ghost fill = { λ p _. members (X.LevelMasks.word p.0) };
-
-    ghost able = { λ p. X.LevelMasks.ok p.0 };
 
     fn with<S: LevelMasksIterExt + Copy, K: Asker>(self, _set: S, asker: K) -> K::Answer {
         asker.ask(self.0)
@@ -99,8 +84,6 @@ impl<Op: BitSetOp + Drop, R: Pile, S: LevelMasksIterExt + Copy, K: Asker> Asker
 
     ghost shown = { K.Asker.shown };
 
-    ghost able = { λ b. R.Pile.able b.right × S.LevelMasks.ok b.set × K.Asker.able b.asker };
-
     fn ask<T: LevelMasksIterExt + Drop>(self, pile: T) -> K::Answer {
         let LeftBuilt {
             op,
@@ -126,8 +109,6 @@ impl<Op: BitSetOp + Drop, T: LevelMasksIterExt + Drop, K: Asker> Asker for BothB
 
     ghost shown = { K.Asker.shown };
 
-    ghost able = { λ b. T.LevelMasks.ok b.left × K.Asker.able b.asker };
-
     fn ask<U: LevelMasksIterExt + Drop>(self, pile: U) -> K::Answer {
         let BothBuilt { op, left, asker } = self;
         let both = Apply {
@@ -142,8 +123,6 @@ impl<Op: BitSetOp + Drop, T: LevelMasksIterExt + Drop, K: Asker> Asker for BothB
 
 impl<Op: BitSetOp + Drop, L: Pile, R: Pile> Pile for Node<Op, L, R> {
     ghost fill = { λ p M n. joined Op.BitSetOp.words n (L.Pile.fill p.left M n) (R.Pile.fill p.right M n) };
-
-    ghost able = { λ p. L.Pile.able p.left × R.Pile.able p.right };
 
     fn with<S: LevelMasksIterExt + Copy, K: Asker>(self, set: S, asker: K) -> K::Answer {
         let Node { op, left, right } = self;

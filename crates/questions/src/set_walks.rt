@@ -19,8 +19,6 @@ impl<A: Acts<usize>> Call for Indices<A> {
 
     ghost shown = { λ a. asked.Listed (A.Acts.shown a) };
 
-    ghost able = { λ _. Unit {0} };
-
     fn on(self, set: &mut BitSet<'_>) -> A::Answers {
         let Indices(acts) = self;
         indices_of(View::new(set), acts)
@@ -37,8 +35,6 @@ impl<A: Acts<DataBlock>> Call for Blocks<A> {
     ghost asks = { λ c. asked.Blocks (A.Acts.acts c.0) };
 
     ghost shown = { λ a. asked.Filled (A.Acts.shown a) };
-
-    ghost able = { λ _. Unit {0} };
 
     fn on(self, set: &mut BitSet<'_>) -> A::Answers {
         let Blocks(acts) = self;

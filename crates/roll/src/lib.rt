@@ -1,8 +1,11 @@
 //! What the set answers by: the refusals and, in specs/, the roll of members.
 #![tactic(auto)]
 
-ghost use Rattle.std.specs.Prelude.{◌≡◌};
-ghost use Rattle.roll.specs.Refusals.{number, phrase};
+ghost use Rattle.std.specs.Prelude.{◌≡◌, Some};
+ghost use Rattle.roll.specs.Refusals.{number, phrase, code_of, Names};
+
+use std::error::Error;
+use std::fmt;
 
 /// Why a call is refused. A refused call changes nothing.
 #[derive(Clone, Copy, PartialEq, Eq, Debug)]
@@ -43,6 +46,52 @@ impl Refusal {
             Refusal::GroupsFull => "every slot for groups is in use",
             Refusal::BlocksFull => "every slot for blocks is in use",
             Refusal::NoElement => "a pool needs at least one element",
+        }
+    }
+}
+
+/// What a change came to, as a number: 0 where it was made, else its refusal's.
+pub fn code(change: Result<(), Refusal>) -> u8
+    ensures { result ≡ code_of change }
+{
+    change.map_or_else(|refusal| refusal.number(), |()| 0)
+}
+
+impl fmt::Display for Refusal {
+    ghost output = { λ r. Some (phrase r) };
+
+    fn fmt<W: fmt::Write>(&self, f: &mut fmt::Formatter<W>) -> fmt::Result {
+        f.write_str(self.message())
+    }
+}
+
+impl Error for Refusal {}
+
+/// A number that no refusal has.
+#[derive(Clone, Copy, PartialEq, Eq, Debug)]
+pub struct UnknownNumber(pub u64);
+
+impl fmt::Display for UnknownNumber {
+    fn fmt<W: fmt::Write>(&self, f: &mut fmt::Formatter<W>) -> fmt::Result {
+        write!(f, "no refusal has the number {}", self.0)
+    }
+}
+
+impl Error for UnknownNumber {}
+
+impl TryFrom<u64> for Refusal {
+    type Error = UnknownNumber;
+
+    ghost try_from_gives = { Names };
+
+    fn try_from(number: u64) -> Result<Self, UnknownNumber> {
+        match number {
+            1 => Ok(Refusal::OutOfRange),
+            2 => Ok(Refusal::OffBoundary),
+            3 => Ok(Refusal::GroupsFull),
+            4 => Ok(Refusal::BlocksFull),
+            5 => Ok(Refusal::NoElement),
+            _ => Err(UnknownNumber(number)),
         }
     }
 }

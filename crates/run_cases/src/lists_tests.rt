@@ -5,37 +5,22 @@ use pool::block::Block;
 use questions::pile_calls::{InPile, PileWalk};
 use questions::piles::{Hole, Node, Other};
 use questions::set_walks::{Blocks, Indices};
-use roll::Refusal;
+use roll::code;
 use runs::calls::{Contains, Insert, InsertBlock, Intersect, Remove, Unite, Used};
 use runs::laws::{after_list, alike, next_call};
 use runs::script::{Finish, Then};
+use stored::{OLD_BLOCK, OLD_WORD};
 use view::View;
-
-// what a slice may hold before it is lent
-const OLD_BLOCK: Block = Block {
-    mask: 0x5555_5555_5555_5555,
-    slots: [65535; 64],
-};
-
-const OLD_WORD: u64 = 0xdead_beef_dead_beef;
-
-fn then<C, R>(first: C, rest: R) -> Then<C, R> {
-    Then { first, rest }
-}
-
-// 0 for a change that was accepted, or the refusal's number
-fn code(r: Result<(), Refusal>) -> u8 {
-    match r {
-        Ok(()) => 0,
-        Err(e) => e.number(),
-    }
-}
+use walks::block_iter::DataBlock;
 
 #[test]
 fn refused_for_memory(rt: HostRuntime) {
     let mut level1 = [OLD_BLOCK; 3];
     let mut words = [OLD_WORD; 4];
-    let list = then(Insert(5), then(Insert(70), then(Insert(5000), Finish)));
+    let list = Then::new(
+        Insert(5),
+        Then::new(Insert(70), Then::new(Insert(5000), Finish)),
+    );
     let (set, answers, refused) = next_call(&mut level1, &mut words, list, Insert(200));
     let (a, (b, (c, ()))) = answers;
     assert!(rt; code(a) == 0 && code(b) == 0 && code(c) == 0);
@@ -47,19 +32,20 @@ fn refused_for_memory(rt: HostRuntime) {
 fn slots_again(rt: HostRuntime) {
     let mut level1 = [OLD_BLOCK; 2];
     let mut words = [OLD_WORD; 2];
-    let list = then(
+    let list = Then::new(
         Insert(5),
-        then(
+        Then::new(
             Remove(5),
-            then(
+            Then::new(
                 InsertBlock(4096, 3),
-                then(Contains(4097), then(Used, Finish)),
+                Then::new(Contains(4097), Then::new(Used, Finish)),
             ),
         ),
     );
     let (set, answers) = after_list(&mut level1, &mut words, list);
     let (_, (was, (put, (has, (used, ()))))) = answers;
-    assert!(rt; matches!(was, Ok(true)) && code(put) == 0 && has);
+    assert_eq!(rt; was, Ok(true));
+    assert!(rt; code(put) == 0 && has);
     assert_eq!(rt; used, (1, 1));
     assert!(rt; !set.contains(5));
 }
@@ -70,16 +56,19 @@ fn same_members(rt: HostRuntime) {
     let mut words1 = [OLD_WORD; 4];
     let mut two = [OLD_BLOCK; 3];
     let mut words2 = [1u64; 4];
-    let longer = then(
+    let longer = Then::new(
         Insert(9000),
-        then(Remove(9000), then(Insert(5000), then(Insert(5), Finish))),
+        Then::new(
+            Remove(9000),
+            Then::new(Insert(5000), Then::new(Insert(5), Finish)),
+        ),
     );
-    let shorter = then(Insert(5), then(Insert(5000), Finish));
+    let shorter = Then::new(Insert(5), Then::new(Insert(5000), Finish));
     let acts = ThenNext(ThenSeek {
         to: 6,
         rest: ThenNext(ThenNext(Stop)),
     });
-    let walk = then(Indices(acts), Finish);
+    let walk = Then::new(Indices(acts), Finish);
     let (a, b) = alike(
         &mut one,
         &mut words1,
@@ -103,7 +92,7 @@ fn merged_with_another(rt: HostRuntime) {
     let (x, _) = after_list(
         &mut one,
         &mut words1,
-        then(Insert(5), then(Insert(70), Finish)),
+        Then::new(Insert(5), Then::new(Insert(70), Finish)),
     );
     let list = Then {
         first: Insert(5000),
@@ -134,7 +123,7 @@ fn set_on_both_sides(rt: HostRuntime) {
     let (x, _) = after_list(
         &mut one,
         &mut words1,
-        then(Insert(5), then(Insert(70), Finish)),
+        Then::new(Insert(5), Then::new(Insert(70), Finish)),
     );
     // the set or x, less the set: what x has and the set lacks
     let pile = Node {
@@ -150,7 +139,7 @@ fn set_on_both_sides(rt: HostRuntime) {
         pile,
         acts: ThenNext(ThenNext(Stop)),
     };
-    let list = then(Insert(5), then(Insert(9000), Finish));
+    let list = Then::new(Insert(5), Then::new(Insert(9000), Finish));
     let (_, _, seen) = next_call(&mut two, &mut words2, list, walk);
     assert_eq!(rt; seen, (Some(70), (None, ())));
 }
@@ -177,6 +166,12 @@ fn a_question_in_a_list(rt: HostRuntime) {
     let (_, answers) = after_list(&mut level1, &mut words, list);
     let (put, (has, ((block, (end, ())), ()))) = answers;
     assert!(rt; code(put) == 0 && !has);
-    assert!(rt; matches!(block, Some(b) if b.start_index == 128 && b.bit_block == 5));
+    assert_eq!(rt;
+        block,
+        Some(DataBlock {
+            start_index: 128,
+            bit_block: 5
+        })
+    );
     assert!(rt; end.is_none());
 }

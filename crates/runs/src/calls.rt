@@ -5,7 +5,7 @@ ghost use Rattle.roll.specs.Roll as rolls;
 ghost use Rattle.roll.specs.Merges as merges;
 ghost use Rattle.roll.specs.Answers.{outcome, found};
 ghost use Rattle.tree.specs.Steps.{Lent};
-ghost use Rattle.bitset.specs.Sets.{Sound, roll_of};
+ghost use Rattle.bitset.specs.Sets.{roll_of};
 ghost use Rattle.runs.specs.Asks.{Ask, Reply, Ordered, Merged, Said, reply, next};
 
 use bitset::BitSet;
@@ -20,15 +20,9 @@ pub trait Call {
 
     ghost shown: { Self.Answer → Reply };
 
-    // its operands can be read
-    ghost able: { Self → Type 0 };
-
     fn on(self, set: &mut BitSet<'_>) -> Self::Answer
-        requires sound { Sound set.old }
-        requires able { able self }
         ensures says { shown result ≡ reply (roll_of set.old) (asks self) }
         ensures roll { roll_of set.new ≡ next (roll_of set.old) (asks self) }
-        ensures sound { Sound set.new }
         ensures lent { Lent set.old.tree set.new.tree };
 }
 
@@ -42,8 +36,6 @@ impl Call for Insert {
     ghost asks = { λ c. Ordered (rolls.Insert c.0) };
 
     ghost shown = { λ a. Said (outcome a) };
-
-    ghost able = { λ _. Unit {0} };
 
     fn on(self, set: &mut BitSet<'_>) -> Result<(), Refusal> {
         set.insert(self.0)
@@ -61,8 +53,6 @@ impl Call for InsertBlock {
 
     ghost shown = { λ a. Said (outcome a) };
 
-    ghost able = { λ _. Unit {0} };
-
     fn on(self, set: &mut BitSet<'_>) -> Result<(), Refusal> {
         set.insert_block(self.0, self.1)
     }
@@ -78,8 +68,6 @@ impl Call for Remove {
     ghost asks = { λ c. Ordered (rolls.Remove c.0) };
 
     ghost shown = { λ a. Said (found a) };
-
-    ghost able = { λ _. Unit {0} };
 
     fn on(self, set: &mut BitSet<'_>) -> Result<bool, Refusal> {
         set.remove(self.0)
@@ -97,8 +85,6 @@ impl Call for Contains {
 
     ghost shown = { λ a. Said (rolls.Told a) };
 
-    ghost able = { λ _. Unit {0} };
-
     fn on(self, set: &mut BitSet<'_>) -> bool {
         set.contains(self.0)
     }
@@ -114,8 +100,6 @@ impl Call for Used {
     ghost asks = { λ _. Ordered rolls.Used };
 
     ghost shown = { λ a. Said (rolls.Counted a.0 a.1) };
-
-    ghost able = { λ _. Unit {0} };
 
     fn on(self, set: &mut BitSet<'_>) -> (usize, usize) {
         set.used()
@@ -133,8 +117,6 @@ impl<X: LevelMasksIterExt + Drop> Call for Unite<X> {
 
     ghost shown = { λ a. Said (outcome a) };
 
-    ghost able = { λ c. X.LevelMasks.ok c.0 };
-
     fn on(self, set: &mut BitSet<'_>) -> Result<(), Refusal> {
         let Unite(x) = self;
         set.unite(&x)
@@ -151,8 +133,6 @@ impl<X: LevelMasksIterExt + Drop> Call for Intersect<X> {
     ghost asks = { λ c. Merged (merges.Intersect (members (X.LevelMasks.word c.0))) };
 
     ghost shown = { λ _. Said rolls.Done };
-
-    ghost able = { λ c. X.LevelMasks.ok c.0 };
 
     fn on(self, set: &mut BitSet<'_>) {
         let Intersect(x) = self;

@@ -2,7 +2,7 @@
 //! that sets with the same members answer alike.
 ghost use Rattle.std.specs.Prelude.{◌≡◌, ℕ, ◌<◌, length};
 ghost use Rattle.tree.specs.Slots.{Stands};
-ghost use Rattle.bitset.specs.Sets.{Sound, roll_of};
+ghost use Rattle.bitset.specs.Sets.{roll_of};
 ghost use Rattle.runs.specs.Asks.{new_roll, reply, next, replies, leaves};
 ghost use Rattle.runs.specs.Memory.{MemoryRule};
 ghost use Rattle.runs.specs.SameAsks.{SameAsks};
@@ -11,7 +11,6 @@ use super::calls::Call;
 use super::script::Script;
 use bitset::BitSet;
 use pool::block::Block;
-use pool::level::Level;
 
 /// A new set over two lent slices, whatever they held, after a list of calls. The answers and the members are
 /// the roll's (`answers`, `members`). Each slot but slot 0 is held by one entry, or stands once on the chain of
@@ -23,14 +22,12 @@ pub fn after_list<'a, S: Script>(
 ) -> (BitSet<'a>, S::Answers)
     requires level1 { 0 < length level1.old }
     requires words { 0 < length «data».old }
-    requires able { S.Script.able list }
     ensures slots { Stands result.0.tree }
     ensures members { roll_of result.0 ≡ leaves (new_roll level1.old «data».old) (S.Script.asks list) }
     ensures answers { S.Script.shown result.1 ≡ replies (new_roll level1.old «data».old) (S.Script.asks list) }
-    ensures sound { Sound result.0 }
     ensures lent { (result.0.tree.level1.blocks.ghost_name ≡ level1.entry.ghost_name) × (result.0.tree.«data».blocks.ghost_name ≡ «data».entry.ghost_name) }
 {
-    let mut set = BitSet::new(Level::new(level1), Level::new(data));
+    let mut set = BitSet::over(level1, data);
     let answers = list.run(&mut set);
     set.stands();
     (set, answers)
@@ -47,13 +44,10 @@ pub fn next_call<'a, S: Script, C: Call>(
 ) -> (BitSet<'a>, S::Answers, C::Answer)
     requires level1 { 0 < length level1.old }
     requires words { 0 < length «data».old }
-    requires able { S.Script.able list }
-    requires next { C.Call.able call }
     ensures memory { MemoryRule (leaves (new_roll level1.old «data».old) (S.Script.asks list)) (C.Call.asks call) (C.Call.shown result.2) }
     ensures answer { C.Call.shown result.2 ≡ reply (leaves (new_roll level1.old «data».old) (S.Script.asks list)) (C.Call.asks call) }
     ensures members { roll_of result.0 ≡ next (leaves (new_roll level1.old «data».old) (S.Script.asks list)) (C.Call.asks call) }
     ensures answers { S.Script.shown result.1 ≡ replies (new_roll level1.old «data».old) (S.Script.asks list) }
-    ensures sound { Sound result.0 }
     ensures lent { (result.0.tree.level1.blocks.ghost_name ≡ level1.entry.ghost_name) × (result.0.tree.«data».blocks.ghost_name ≡ «data».entry.ghost_name) }
 {
     let (mut set, answers) = after_list(level1, data, list);
@@ -79,8 +73,6 @@ where
     S2::Answers: Drop,
     requires upper { (0 < length upper1.old) × (0 < length upper2.old) }
     requires lower { (0 < length lower1.old) × (0 < length lower2.old) }
-    requires able { (S1.Script.able s1) × (S2.Script.able s2) }
-    requires further { (F1.Script.able f1) × (F2.Script.able f2) }
     ensures same { length upper1.old ≡ length upper2.old → length lower1.old ≡ length lower2.old
         → ((n : ℕ) → (leaves (new_roll upper1.old lower1.old) (S1.Script.asks s1)).has n ≡ (leaves (new_roll upper2.old lower2.old) (S2.Script.asks s2)).has n)
         → SameAsks (F1.Script.asks f1) (F2.Script.asks f2)

@@ -1,7 +1,7 @@
 //! A list of calls as a type: `Finish`, or a first call and the rest.
 ghost use Rattle.std.specs.Prelude.{◌≡◌, List, [], ◌∷◌};
 ghost use Rattle.tree.specs.Steps.{Lent};
-ghost use Rattle.bitset.specs.Sets.{Sound, roll_of};
+ghost use Rattle.bitset.specs.Sets.{roll_of};
 ghost use Rattle.runs.specs.Asks.{Ask, Reply, replies, leaves};
 
 use super::calls::Call;
@@ -15,15 +15,9 @@ pub trait Script {
 
     ghost shown: { Self.Answers → List Reply };
 
-    // the operands of its calls can be read
-    ghost able: { Self → Type 0 };
-
     fn run(self, set: &mut BitSet<'_>) -> Self::Answers
-        requires sound { Sound set.old }
-        requires able { able self }
         ensures says { shown result ≡ replies (roll_of set.old) (asks self) }
         ensures roll { roll_of set.new ≡ leaves (roll_of set.old) (asks self) }
-        ensures sound { Sound set.new }
         ensures lent { Lent set.old.tree set.new.tree };
 }
 
@@ -38,8 +32,6 @@ impl Script for Finish {
 
     ghost shown = { λ _. [] };
 
-    ghost able = { λ _. Unit {0} };
-
     fn run(self, _set: &mut BitSet<'_>) {}
 }
 
@@ -50,6 +42,16 @@ pub struct Then<C, R> {
     pub rest: R,
 }
 
+impl<C, R> Then<C, R> {
+    /// A call before a list.
+    pub fn new(first: C, rest: R) -> Self
+        ensures call { result.first ≡ first }
+        ensures list { result.rest ≡ rest }
+    {
+        Then { first, rest }
+    }
+}
+
 impl<C: Call, R: Script> Script for Then<C, R> {
     type Answers = (C::Answer, R::Answers);
 
@@ -57,12 +59,8 @@ impl<C: Call, R: Script> Script for Then<C, R> {
 
     ghost shown = { λ a. C.Call.shown a.0 ∷ R.Script.shown a.1 };
 
-    ghost able = { λ s. C.Call.able s.first × R.Script.able s.rest };
-
     fn run(self, set: &mut BitSet<'_>) -> (C::Answer, R::Answers) {
         let Then { first, rest } = self;
-        let answer = first.on(set);
-        let answers = rest.run(set);
-        (answer, answers)
+        (first.on(set), rest.run(set))
     }
 }

@@ -1,5 +1,7 @@
 -- The keywords of a shift file.
-use Rattle.std.specs.Prelude.{ℕ, List, codes}
+use Rattle.std.specs.Prelude.{◌≡◌, ℕ, List, codes, Result, MatchResult, ◌≢◌}
+use Rattle.shift.specs.declared.Expected.{Expected}
+use Rattle.shift.specs.declared.Expected.TheVariants.{Keyword}
 use Rattle.shift.specs.declared.words.Word.{Word}
 use Rattle.shift.specs.declared.words.Word.TheVariants.{Pools, Machine, Mark, Block, Unmark, Ask, Cells, Shared, Lacking}
 
@@ -14,6 +16,11 @@ spelling Ask = codes "ask"
 spelling Cells = codes "cells"
 spelling Shared = codes "shared"
 spelling Lacking = codes "lacking"
+
+-- the result is the keyword that the field spells; where it spells none, a keyword is expected
+abbrev pub Named : List ℕ → Result Word Expected → Type 0
+Named field r =
+    MatchResult r (λ w. field ≡ spelling w) (λ e. ((w : Word) → field ≢ spelling w) × (e ≡ Keyword))
 
 -- how many numbers follow it
 abbrev pub due : Word → ℕ

@@ -8,21 +8,13 @@ use crate::Expected;
 // How many digits a number may have.
 const MOST_DIGITS: usize = 20;
 
-// The largest number of 64 bits.
-const LARGEST: u128 = 0xffff_ffff_ffff_ffff;
-
 // Where the first field of `text` ends: at the first space, or at the end.
 fn field_end(text: &[u8]) -> usize
     ensures within { result ≤ length text.now }
     ensures before { (k : ℕ) → k < result → slice_index text.now k ≢ space }
     ensures at { result < length text.now → slice_index text.now result ≡ space }
 {
-    for (i, b) in text.iter().enumerate() {
-        if *b == b' ' {
-            return i;
-        }
-    }
-    text.len()
+    text.iter().position(|b| *b == b' ').unwrap_or(text.len())
 }
 
 // The first field of `text`, and what comes after it.
@@ -46,10 +38,7 @@ fn number(field: &[u8]) -> Result<u64, Expected>
         }
         n = n * 10 + u128::from(*b - b'0');
     }
-    if n > LARGEST {
-        return Err(Expected::TooLarge);
-    }
-    Ok(n as u64)
+    u64::try_from(n).map_err(|_| Expected::TooLarge)
 }
 
 // The number in the field after the space that `text` begins with, and what comes after it.

@@ -4,7 +4,7 @@
 ghost use Rattle.shift.specs.Fields.{Amiss};
 ghost use Rattle.shift.specs.Lines.{Fault, Says, wording};
 ghost use Rattle.shift.specs.Words.{due, spelling};
-ghost use Rattle.std.specs.Prelude.{◌≡◌, ◌++◌, Ok, Err, MatchResult};
+ghost use Rattle.std.specs.Prelude.{◌≡◌, ◌++◌, Some, Ok, Err, MatchResult};
 
 mod fields;
 #[cfg(test)]
@@ -12,7 +12,9 @@ mod tests;
 mod words;
 
 use fields::{first_field, one_number, two_numbers};
-use words::{Word, named};
+use std::error::Error;
+use std::fmt;
+use words::Word;
 
 // A line that begins with this byte is a note.
 const NOTE: u8 = b'#';
@@ -70,26 +72,30 @@ impl Expected {
     }
 }
 
+impl fmt::Display for Expected {
+    ghost output = { λ e. Some (wording e) };
+
+    fn fmt<W: fmt::Write>(&self, f: &mut fmt::Formatter<W>) -> fmt::Result {
+        f.write_str(self.message())
+    }
+}
+
+impl Error for Expected {}
+
 // The step of a keyword and the numbers listed after it.
 fn step_of(word: Word, list: &[u8]) -> Result<Step, Expected>
     ensures { MatchResult result (λ st. Says (spelling word ++ list.now) st) (λ e. Amiss (due word) list.now e) }
 {
     match word {
-        Word::Pools => {
-            let (groups, blocks) = two_numbers(list)?;
-            Ok(Step::Pools(groups, blocks))
-        }
-        Word::Machine => Ok(Step::Machine(one_number(list)?)),
-        Word::Mark => Ok(Step::Mark(one_number(list)?)),
-        Word::Block => {
-            let (start, cells) = two_numbers(list)?;
-            Ok(Step::Block(start, cells))
-        }
-        Word::Unmark => Ok(Step::Unmark(one_number(list)?)),
-        Word::Ask => Ok(Step::Ask(one_number(list)?)),
-        Word::Cells => Ok(Step::Cells(one_number(list)?)),
-        Word::Shared => Ok(Step::Shared(one_number(list)?)),
-        Word::Lacking => Ok(Step::Lacking(one_number(list)?)),
+        Word::Pools => two_numbers(list).map(|(groups, blocks)| Step::Pools(groups, blocks)),
+        Word::Machine => one_number(list).map(Step::Machine),
+        Word::Mark => one_number(list).map(Step::Mark),
+        Word::Block => two_numbers(list).map(|(start, cells)| Step::Block(start, cells)),
+        Word::Unmark => one_number(list).map(Step::Unmark),
+        Word::Ask => one_number(list).map(Step::Ask),
+        Word::Cells => one_number(list).map(Step::Cells),
+        Word::Shared => one_number(list).map(Step::Shared),
+        Word::Lacking => one_number(list).map(Step::Lacking),
     }
 }
 
@@ -105,8 +111,5 @@ pub fn read_step(line: &[u8]) -> Result<Step, Expected>
         return Ok(Step::Nothing);
     }
     let (word, list) = first_field(line);
-    match named(word) {
-        Some(w) => step_of(w, list),
-        None => Err(Expected::Keyword),
-    }
+    step_of(Word::try_from(word)?, list)
 }

@@ -1,6 +1,7 @@
 // The keywords of a shift file.
-ghost use Rattle.shift.specs.Words.{spelling};
-ghost use Rattle.std.specs.Prelude.{◌≡◌, MatchOption, ◌≢◌};
+ghost use Rattle.shift.specs.Words.{Named};
+
+use crate::Expected;
 
 #[derive(Clone, Copy)]
 pub enum Word {
@@ -15,20 +16,24 @@ pub enum Word {
     Lacking,
 }
 
-// The keyword that a field spells.
-pub fn named(field: &[u8]) -> Option<Word>
-    ensures { MatchOption result ((w : Word) → field.now ≢ spelling w) (λ w. field.now ≡ spelling w) }
-{
-    match field {
-        b"pools" => Some(Word::Pools),
-        b"machine" => Some(Word::Machine),
-        b"mark" => Some(Word::Mark),
-        b"block" => Some(Word::Block),
-        b"unmark" => Some(Word::Unmark),
-        b"ask" => Some(Word::Ask),
-        b"cells" => Some(Word::Cells),
-        b"shared" => Some(Word::Shared),
-        b"lacking" => Some(Word::Lacking),
-        _ => None,
+impl TryFrom<&[u8]> for Word {
+    type Error = Expected;
+
+    ghost try_from_gives = { λ field r. Named field.now r };
+
+    // The keyword that a field spells.
+    fn try_from(field: &[u8]) -> Result<Word, Expected> {
+        match field {
+            b"pools" => Ok(Word::Pools),
+            b"machine" => Ok(Word::Machine),
+            b"mark" => Ok(Word::Mark),
+            b"block" => Ok(Word::Block),
+            b"unmark" => Ok(Word::Unmark),
+            b"ask" => Ok(Word::Ask),
+            b"cells" => Ok(Word::Cells),
+            b"shared" => Ok(Word::Shared),
+            b"lacking" => Ok(Word::Lacking),
+            _ => Err(Expected::Keyword),
+        }
     }
 }

@@ -9,3 +9,4 @@ pub mod Start
 pub mod Room
 pub mod Slots
 pub mod Covers
+pub mod OneProof

@@ -25,14 +25,12 @@ impl<'a> Tree<'a> {
         if b != 0 {
             return b;
         }
-        match self.level1.insert_empty_block() {
-            Some(b) => {
-                self.level0.slots[i] = b as u8;
-                self.level0.mask = set_bit(self.level0.mask, i);
-                b
-            }
-            None => unreachable(),
-        }
+        let Some(b) = self.level1.insert_empty_block() else {
+            unreachable()
+        };
+        self.level0.slots[i] = b as u8;
+        self.level0.mask = set_bit(self.level0.mask, i);
+        b
     }
 
     // A data slot for block (i, j), which has none, in the group at slot b.
@@ -48,13 +46,11 @@ impl<'a> Tree<'a> {
         ensures lent { Lent self.old self.new }
     {
         let mask = set_bit(self.level1.at(b).mask, j);
-        match self.data.insert_empty_block() {
-            Some(c) => {
-                self.level1.put_place(b, j, mask, c as u16);
-                c
-            }
-            None => unreachable(),
-        }
+        let Some(c) = self.data.insert_empty_block() else {
+            unreachable()
+        };
+        self.level1.put_place(b, j, mask, c as u16);
+        c
     }
 
     // Whether group i has a slot or can be given one.

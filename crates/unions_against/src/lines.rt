@@ -1,6 +1,5 @@
 //! The lines of the stored calls on four sets.
-use anyhow::anyhow;
-use std::alloc::Global;
+use stored::read_answer;
 
 #[derive(Clone, Copy)]
 pub enum Call {
@@ -9,21 +8,22 @@ pub enum Call {
     Insert(usize),
     InsertBlock(usize, u64),
     Remove(usize),
-    /// With the shape of that number over the other three sets.
+    /// With the pile of that number over the other three sets.
     Unite(usize),
     Intersect(usize),
     Members,
 }
 
+/// What a set has: nonempty groups, nonempty blocks, members, and the members' checksum.
 #[derive(Clone, Copy, PartialEq, Eq)]
-pub enum Answer {
-    Accepted,
-    Refused(u64),
-    Yes,
-    No,
-    /// Nonempty groups, nonempty blocks, members, and the members' checksum.
-    Has(usize, usize, u64, u64),
+pub struct Counts {
+    pub groups: usize,
+    pub blocks: usize,
+    pub members: u64,
+    pub checksum: u64,
 }
+
+pub type Answer = stored::Answer<Counts>;
 
 #[derive(Clone, Copy)]
 pub struct Line {
@@ -33,80 +33,52 @@ pub struct Line {
     pub answer: Answer,
 }
 
-fn number(field: Option<&str>) -> Option<u64> {
-    match field?.parse::<u64>() {
-        Ok(n) => Some(n),
-        Err(_) => None,
+impl Line {
+    /// Whether a run begins here: with a new set 0.
+    pub fn begins_run(&self) -> bool {
+        matches!(self.call, Call::New(_, _)) && self.set == 0
     }
 }
 
-fn set_of(field: Option<&str>) -> Option<usize> {
-    let k = number(field)? as usize;
-    if k < 4 { Some(k) } else { None }
+fn read_set(field: &str) -> Option<usize> {
+    field.parse().ok().filter(|k| *k < 4)
 }
 
-fn answer_of(field: Option<&str>) -> Option<Answer> {
-    match field? {
-        "y" => Some(Answer::Yes),
-        "n" => Some(Answer::No),
-        "0" => Some(Answer::Accepted),
-        other => Some(Answer::Refused(number(Some(other))?)),
-    }
+// A line of members: their counts are the answer.
+fn read_counts(groups: &str, blocks: &str, members: &str, checksum: &str) -> Option<Answer> {
+    Some(Answer::Counts(Counts {
+        groups: groups.parse().ok()?,
+        blocks: blocks.parse().ok()?,
+        members: members.parse().ok()?,
+        checksum: checksum.parse().ok()?,
+    }))
 }
 
-// A new set's line has two numbers below 65,536.
-fn new_set(p: u64, q: Option<u64>) -> Option<Call> {
-    let q = q?;
-    if p < 65536 && q < 65536 {
-        return Some(Call::New(p as u16, q as u16));
-    }
-    None
-}
-
-// The call of a line, from the two fields after the set.
-fn call_of(op: &str, a: u64, b: Option<u64>) -> Option<Call> {
+// A call with one number.
+fn read_call(op: &str, number: &str) -> Option<Call> {
+    let n = number.parse().ok()?;
     match op {
-        "s" => new_set(a, b),
-        "i" => Some(Call::Insert(a as usize)),
-        "b" => Some(Call::InsertBlock(a as usize, b?)),
-        "r" => Some(Call::Remove(a as usize)),
-        "u" => Some(Call::Unite(a as usize)),
-        "n" => Some(Call::Intersect(a as usize)),
-        "m" => Some(Call::Members),
+        "i" => Some(Call::Insert(n)),
+        "r" => Some(Call::Remove(n)),
+        "u" => Some(Call::Unite(n)),
         _ => None,
     }
 }
 
-// The last numbers of a line of members.
-fn has(a: u64, b: Option<u64>, c: Option<u64>, d: Option<u64>) -> Option<Answer> {
-    Some(Answer::Has(a as usize, b? as usize, c?, d?))
-}
-
-fn read_line(text: &str) -> Option<Line> {
+pub(super) fn read_line(text: &str) -> Option<Line> {
     let mut f = text.split(' ');
-    let op = f.next()?;
-    let set = set_of(f.next())?;
-    let a = number(f.next())?;
-    let b = f.next();
-    let c = f.next();
-    let call = call_of(op, a, number(b))?;
-    let answer = match call {
-        Call::New(_, _) | Call::Intersect(_) => Answer::Accepted,
-        Call::InsertBlock(_, _) => answer_of(c)?,
-        Call::Members => has(a, number(b), number(c), number(f.next()))?,
-        _ => answer_of(b)?,
+    let (op, set) = (f.next()?, read_set(f.next()?)?);
+    let accepted = Answer::Change(Ok(()));
+    let (call, answer) = match (op, f.next()?, f.next(), f.next(), f.next()) {
+        ("s", p, Some(q), None, None) => (Call::New(p.parse().ok()?, q.parse().ok()?), accepted),
+        ("n", pile, None, None, None) => (Call::Intersect(pile.parse().ok()?), accepted),
+        ("m", g, Some(b), Some(n), Some(sum)) => (Call::Members, read_counts(g, b, n, sum)?),
+        ("b", start, Some(word), Some(r), None) => (
+            Call::InsertBlock(start.parse().ok()?, word.parse().ok()?),
+            read_answer(r)?,
+        ),
+        (op, n, Some(r), None, None) => (read_call(op, n)?, read_answer(r)?),
+        _ => return None,
     };
     Some(Line { set, call, answer })
-}
-
-/// The lines of a text.
-pub(super) fn all_lines(heap: Global, text: &str) -> anyhow::Result<Vec<Line>> {
-    let mut lines = Vec::new(heap);
-    for s in text.lines() {
-        match read_line(s) {
-            Some(line) => lines.push(line)?,
-            None => return Err(anyhow!(format!(in heap; "cannot read: {s}")?)),
-        }
-    }
-    Ok(lines)
 }

@@ -2,7 +2,6 @@
 #![tactic(auto)]
 
 ghost use Rattle.std.specs.Prelude.{◌≡◌, true};
-ghost use Rattle.bitset.specs.Sets.{Sound};
 ghost use Rattle.tree.specs.Trees.{node, slot1, word as word_of};
 
 use bitset::BitSet;
@@ -34,8 +33,6 @@ impl<'s, 'a> LevelMasks for View<'s, 'a> {
 
     ghost trusted = { true };
 
-    ghost ok = { λ s. Sound s.set.now };
-
     fn rules(&self) {
         let _ = self.set.tree().level0_mask();
     }
@@ -43,7 +40,7 @@ impl<'s, 'a> LevelMasks for View<'s, 'a> {
     fn is_trusted() -> bool
         ensures { result ≡ true }
     {
-        true
+        Self::TRUSTED
     }
 
     fn level0_mask(&self) -> u64 {

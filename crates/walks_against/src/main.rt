@@ -2,142 +2,95 @@
 //! that differ from the Rust crate's.
 #![tactic(auto)]
 
-ghost use Rattle.bitset.specs.Sets.{Sound};
-ghost use Rattle.std.specs.Prelude.{◌<◌, ◌≤◌, length};
+ghost use Rattle.std.specs.Prelude.{◌<◌, length, IfOk};
 
-mod entries;
+mod lines;
 mod shapes;
 
-use anyhow::anyhow;
 use bitset::BitSet;
-use entries::{Entry, all_entries};
-use pool::block::Block;
-use pool::level::Level;
-use shapes::{Kind, over_shape};
-use std::alloc::Global;
+use lines::{Line, read_line};
+use memory::Memory;
+use shapes::{Blocks, Indices, visit_pile};
+use std::alloc::{AllocError, Global};
 use std::io;
+use stored::{OLD_BLOCK, OLD_WORD, read_lines, tell_none_differs};
 use view::View;
 
-// What the slices hold before they are lent.
-const EMPTY: Block = Block {
-    mask: 0,
-    slots: [0; 64],
-};
-
-// The four sets of a family, and the walks over them: how many answers differ.
-fn family(heap: Global, entries: &[Entry]) -> anyhow::Result<usize> {
-    let mut blocks0 = vec![in heap; EMPTY; 65]?;
-    let mut blocks1 = vec![in heap; EMPTY; 65]?;
-    let mut blocks2 = vec![in heap; EMPTY; 65]?;
-    let mut blocks3 = vec![in heap; EMPTY; 65]?;
-    let mut words0 = vec![in heap; 0u64; 129]?;
-    let mut words1 = vec![in heap; 0u64; 129]?;
-    let mut words2 = vec![in heap; 0u64; 129]?;
-    let mut words3 = vec![in heap; 0u64; 129]?;
-    let a = made(blocks0.as_mut_slice(), words0.as_mut_slice(), entries, 0);
-    let b = made(blocks1.as_mut_slice(), words1.as_mut_slice(), entries, 1);
-    let c = made(blocks2.as_mut_slice(), words2.as_mut_slice(), entries, 2);
-    let d = made(blocks3.as_mut_slice(), words3.as_mut_slice(), entries, 3);
-    Ok(walks(&a, &b, &c, &d, entries))
+// Memory for one of a family's sets, full of old data.
+fn room(heap: Global) -> Result<Memory, AllocError>
+    ensures { IfOk result (λ m. (0 < length m.level1.items) × (0 < length m.words.items)) }
+{
+    Memory::new(heap, 64, 128, OLD_BLOCK, OLD_WORD)
 }
 
-// A set with the members that the entries give it.
-fn made<'a>(
-    level1: &'a mut [Block],
-    words: &'a mut [u64],
-    entries: &[Entry],
-    k: usize,
-) -> BitSet<'a>
-    requires { (0 < length level1.old) × (0 < length words.old) }
-    ensures { Sound result }
-{
-    let upper = Level::new(level1);
-    let lower = Level::new(words);
-    let mut set = BitSet::new(upper, lower);
-    for e in entries {
-        if let Entry::Member(to, n) = *e {
-            if to == k {
-                let _ = set.insert(n);
+// The set gains the members that the lines give the set of that number.
+fn fill(set: &mut BitSet, lines: &[Line], k: usize) {
+    for line in lines {
+        if let Line::Set {
+            number,
+            members,
+            ..
+        } = *line
+            && number == k
+        {
+            for n in members.split_whitespace() {
+                if let Ok(n) = n.parse() {
+                    let _ = set.insert(n);
+                }
             }
         }
     }
-    set
 }
 
-// Where the walk that begins before a place ends.
-fn walk_end(entries: &[Entry], from: usize) -> usize
-    requires { from ≤ length entries.now }
-    ensures { (from ≤ result) × (result ≤ length entries.now) }
-{
-    for i in from..entries.len() {
-        match entries[i] {
-            Entry::Seek(_) | Entry::Block(_, _) | Entry::Index(_) | Entry::End => {}
-            _ => return i,
-        }
-    }
-    entries.len()
+// The four sets of a family, and the walks over them: how many answers differ.
+fn family(heap: Global, lines: &[Line]) -> anyhow::Result<usize> {
+    let mut memory0 = room(heap)?;
+    let mut memory1 = room(heap)?;
+    let mut memory2 = room(heap)?;
+    let mut memory3 = room(heap)?;
+    let mut a = memory0.set();
+    let mut b = memory1.set();
+    let mut c = memory2.set();
+    let mut d = memory3.set();
+    fill(&mut a, lines, 0);
+    fill(&mut b, lines, 1);
+    fill(&mut c, lines, 2);
+    fill(&mut d, lines, 3);
+    Ok(walks(&a, &b, &c, &d, lines))
 }
 
-// All walks over the four sets.
-fn walks(a: &BitSet, b: &BitSet, c: &BitSet, d: &BitSet, entries: &[Entry]) -> usize
-    requires { (Sound a.now) × ((Sound b.now) × ((Sound c.now) × (Sound d.now))) }
-{
+// All walks over the four sets, which come one by one: a call with an array of references to sets gets no proof.
+fn walks(a: &BitSet, b: &BitSet, c: &BitSet, d: &BitSet, lines: &[Line]) -> usize {
+    let sets = [View::new(a), View::new(b), View::new(c), View::new(d)];
     let mut differ = 0usize;
-    for i in 0..entries.len() {
-        let (kind, shape) = match entries[i] {
-            Entry::Blocks(shape) => (Kind::Blocks, shape),
-            Entry::Indices(shape) => (Kind::Indices, shape),
-            _ => continue,
+    for walk in lines.chunk_by(|_, next| next.is_asked()) {
+        let wrong = match walk {
+            [Line::Blocks(pile), asked @ ..] => visit_pile(Blocks(asked), *pile, sets),
+            [Line::Indices(pile), asked @ ..] => visit_pile(Indices(asked), *pile, sets),
+            _ => 0,
         };
-        let end = walk_end(entries, i + 1);
-        let wrong = over_shape(
-            View::new(a),
-            View::new(b),
-            View::new(c),
-            View::new(d),
-            shape,
-            kind,
-            &entries[i + 1..end],
-        );
         differ = differ.saturating_add(wrong);
     }
     differ
 }
 
-// Where the family that begins at a place ends: at the first new set 0 after its walks.
-fn family_end(entries: &[Entry], from: usize) -> usize
-    requires { from ≤ length entries.now }
-    ensures { (from ≤ result) × (result ≤ length entries.now) }
-{
-    for i in from..entries.len() {
-        if let Entry::New(0) = entries[i] {
-            return i;
-        }
-    }
-    entries.len()
-}
-
-fn compare(rt: &HostRuntime, entries: &[Entry]) -> anyhow::Result<usize> {
+// Replays family by family, where each begins with its set 0.
+fn compare(rt: &HostRuntime, lines: &[Line]) -> anyhow::Result<usize> {
     let mut differ = 0usize;
-    let mut at = 0usize;
-    while at < entries.len() {
-        let end = family_end(entries, at + 1);
-        let wrong = family(rt.alloc(), &entries[at..end])?;
-        let lines = end - at;
-        println!(rt; "family of {lines} entries: {wrong} answers differ")?;
+    for part in lines.chunk_by(|_, next| !next.begins_family()) {
+        let wrong = family(rt.alloc(), part)?;
+        let entries = part
+            .iter()
+            .fold(0usize, |n, line| n.saturating_add(line.entries()));
+        println!(rt; "family of {entries} entries: {wrong} answers differ")?;
         differ = differ.saturating_add(wrong);
-        at = end;
     }
     Ok(differ)
 }
 
 fn main(rt: HostRuntime) -> anyhow::Result<()> {
     let text = io::read_to_string(rt.alloc(), rt.stdin())?;
-    let entries = all_entries(rt.alloc(), text.as_str())?;
-    let differ = compare(&rt, entries.as_slice())?;
-    if differ > 0 {
-        return Err(anyhow!("answers differ"));
-    }
-    println!(rt; "no answer differs")?;
-    Ok(())
+    let lines = read_lines(rt.alloc(), text.as_str(), read_line)?;
+    let differ = compare(&rt, lines.as_slice())?;
+    tell_none_differs(&rt, differ)
 }

@@ -4,68 +4,48 @@
 ghost use Rattle.worked.specs.Table.{AllHold, table};
 
 use acts::{Stop, ThenNext, ThenSeek};
-use pool::block::Block;
 use questions::set_walks::Indices;
-use roll::Refusal;
+use roll::{Refusal, code};
 use runs::calls::{Insert, InsertBlock, Remove, Unite, Used};
 use runs::laws::{after_list, alike, next_call};
 use runs::script::{Finish, Then};
+use stored::{OLD_BLOCK, OLD_WORD};
 use view::View;
-
-// What the slices hold before they are lent.
-const OLD_BLOCK: Block = Block {
-    mask: 0x5555_5555_5555_5555,
-    slots: [65535; 64],
-};
-
-const OLD_WORD: u64 = 0xdead_beef_dead_beef;
 
 /// Does nothing: its contract says that every case of the table holds.
 pub fn cases_hold()
     ensures { AllHold table }
 {}
 
-fn then<C, R>(first: C, rest: R) -> Then<C, R> {
-    Then { first, rest }
-}
-
-// What a change came to, in words and by its number.
-fn told(r: Result<(), Refusal>) -> (&'static str, u8) {
-    match r {
-        Ok(()) => ("accepted", 0),
-        Err(e) => ("refused", e.number()),
-    }
-}
-
 // With one slot for groups and one for blocks, a set that has 0 is united with {n}.
-fn unite_with(n: usize) -> (&'static str, u8) {
+fn unite_with(n: usize) -> Result<(), Refusal> {
     let mut upper = [OLD_BLOCK; 2];
     let mut lower = [OLD_WORD; 2];
-    let (other, _) = after_list(&mut upper, &mut lower, then(Insert(n), Finish));
+    let (other, _) = after_list(&mut upper, &mut lower, Then::new(Insert(n), Finish));
     let mut level1 = [OLD_BLOCK; 2];
     let mut words = [OLD_WORD; 2];
     let (_, _, answer) = next_call(
         &mut level1,
         &mut words,
-        then(Insert(0), Finish),
+        Then::new(Insert(0), Finish),
         Unite(View::new(&other)),
     );
-    told(answer)
+    answer
 }
 
 // With one slot of each, the first call on an empty set.
-fn first_insert(n: usize) -> (&'static str, u8) {
+fn first_insert(n: usize) -> Result<(), Refusal> {
     let mut level1 = [OLD_BLOCK; 2];
     let mut words = [OLD_WORD; 2];
     let (_, _, answer) = next_call(&mut level1, &mut words, Finish, Insert(n));
-    told(answer)
+    answer
 }
 
-fn first_block(start: usize) -> (&'static str, u8) {
+fn first_block(start: usize) -> Result<(), Refusal> {
     let mut level1 = [OLD_BLOCK; 2];
     let mut words = [OLD_WORD; 2];
     let (_, _, answer) = next_call(&mut level1, &mut words, Finish, InsertBlock(start, 1));
-    told(answer)
+    answer
 }
 
 // Two sets with the member 5, one of which had others before: what they answer to the same further calls, the
@@ -78,21 +58,27 @@ fn two_pasts() -> (
     let mut lower1 = [OLD_WORD; 3];
     let mut upper2 = [OLD_BLOCK; 2];
     let mut lower2 = [0; 3];
-    let long = then(
+    let long = Then::new(
         Insert(70),
-        then(
+        Then::new(
             Insert(200),
-            then(Remove(70), then(Insert(5), then(Remove(200), Finish))),
+            Then::new(
+                Remove(70),
+                Then::new(Insert(5), Then::new(Remove(200), Finish)),
+            ),
         ),
     );
-    let short = then(Insert(5), Finish);
+    let short = Then::new(Insert(5), Finish);
     let walk = ThenSeek {
         to: 6,
         rest: ThenNext(Stop),
     };
-    let further = then(
+    let further = Then::new(
         Insert(130),
-        then(Insert(4096), then(Used, then(Indices(walk), Finish))),
+        Then::new(
+            Insert(4096),
+            Then::new(Used, Then::new(Indices(walk), Finish)),
+        ),
     );
     let (a, b) = alike(
         &mut upper1,
@@ -107,9 +93,21 @@ fn two_pasts() -> (
     let (_, (refused1, (used1, (next1, ())))) = a;
     let (_, (refused2, (used2, (next2, ())))) = b;
     (
-        (told(refused1).1, used1, next1.0),
-        (told(refused2).1, used2, next2.0),
+        (code(refused1), used1, next1.0),
+        (code(refused2), used2, next2.0),
     )
+}
+
+// A line for a change.
+fn tell_change(rt: &HostRuntime, case: &str, change: Result<(), Refusal>) -> anyhow::Result<()> {
+    let said = if change.is_ok() {
+        "accepted"
+    } else {
+        "refused"
+    };
+    let number = code(change);
+    println!(rt; "  {case}: {said} ({number})")?;
+    Ok(())
 }
 
 // A line for each of the two.
@@ -124,14 +122,10 @@ fn main(rt: HostRuntime) -> anyhow::Result<()> {
     cases_hold();
     println!(rt; "the table of worked cases is proved")?;
     println!(rt; "one slot for groups, one for blocks:")?;
-    let (said, number) = unite_with(1);
-    println!(rt; "  has 0, unite with 1: {said} ({number})")?;
-    let (said, number) = unite_with(64);
-    println!(rt; "  has 0, unite with 64: {said} ({number})")?;
-    let (said, number) = first_insert(262143);
-    println!(rt; "  empty, insert 262143: {said} ({number})")?;
-    let (said, number) = first_block(262016);
-    println!(rt; "  empty, block at 262016: {said} ({number})")?;
+    tell_change(&rt, "has 0, unite with 1", unite_with(1))?;
+    tell_change(&rt, "has 0, unite with 64", unite_with(64))?;
+    tell_change(&rt, "empty, insert 262143", first_insert(262143))?;
+    tell_change(&rt, "empty, block at 262016", first_block(262016))?;
     println!(rt; "two sets with the member 5, with other pasts:")?;
     let (a, b) = two_pasts();
     tell(&rt, a)?;

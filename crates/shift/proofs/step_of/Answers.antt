@@ -1,40 +1,30 @@
 -- The keyword, and the numbers after it.
-use Rattle.std.proofs.Common.{◌++◌, ap}
-use Rattle.shift.specs.Words.{spelling}
+use Rattle.std.proofs.Common.{rules}
 use Rattle.shift.proofs.step_of.Goals as goal
 
-pub returns-in_ok-groups-in-Pools : goal.returns-in_ok-groups-in-Pools
-returns-in_ok-groups-in-Pools c =
-    (c.args.list.now, ap (λ w. spelling w ++ c.args.list.now) c.in-Pools.is, c.in_ok-groups-in-Pools.ensures)
+pub returns-in-Pools : goal.returns-in-Pools
+returns-in-Pools c = rw c.in-Pools.is (search rules)
 
-pub returns-in_ok-one_number-in-Machine : goal.returns-in_ok-one_number-in-Machine
-returns-in_ok-one_number-in-Machine c =
-    (c.args.list.now, ap (λ w. spelling w ++ c.args.list.now) c.in-Machine.is, c.in_ok-one_number-in-Machine.ensures)
+pub returns-in-Machine : goal.returns-in-Machine
+returns-in-Machine c = rw c.in-Machine.is (search rules)
 
-pub returns-in_ok-one_number-in-Mark : goal.returns-in_ok-one_number-in-Mark
-returns-in_ok-one_number-in-Mark c =
-    (c.args.list.now, ap (λ w. spelling w ++ c.args.list.now) c.in-Mark.is, c.in_ok-one_number-in-Mark.ensures)
+pub returns-in-Mark : goal.returns-in-Mark
+returns-in-Mark c = rw c.in-Mark.is (search rules)
 
-pub returns-in_ok-start-in-Block : goal.returns-in_ok-start-in-Block
-returns-in_ok-start-in-Block c =
-    (c.args.list.now, ap (λ w. spelling w ++ c.args.list.now) c.in-Block.is, c.in_ok-start-in-Block.ensures)
+pub returns-in-Block : goal.returns-in-Block
+returns-in-Block c = rw c.in-Block.is (search rules)
 
-pub returns-in_ok-one_number-in-Unmark : goal.returns-in_ok-one_number-in-Unmark
-returns-in_ok-one_number-in-Unmark c =
-    (c.args.list.now, ap (λ w. spelling w ++ c.args.list.now) c.in-Unmark.is, c.in_ok-one_number-in-Unmark.ensures)
+pub returns-in-Unmark : goal.returns-in-Unmark
+returns-in-Unmark c = rw c.in-Unmark.is (search rules)
 
-pub returns-in_ok-one_number-in-Ask : goal.returns-in_ok-one_number-in-Ask
-returns-in_ok-one_number-in-Ask c =
-    (c.args.list.now, ap (λ w. spelling w ++ c.args.list.now) c.in-Ask.is, c.in_ok-one_number-in-Ask.ensures)
+pub returns-in-Ask : goal.returns-in-Ask
+returns-in-Ask c = rw c.in-Ask.is (search rules)
 
-pub returns-in_ok-one_number-in-Cells : goal.returns-in_ok-one_number-in-Cells
-returns-in_ok-one_number-in-Cells c =
-    (c.args.list.now, ap (λ w. spelling w ++ c.args.list.now) c.in-Cells.is, c.in_ok-one_number-in-Cells.ensures)
+pub returns-in-Cells : goal.returns-in-Cells
+returns-in-Cells c = rw c.in-Cells.is (search rules)
 
-pub returns-in_ok-one_number-in-Shared : goal.returns-in_ok-one_number-in-Shared
-returns-in_ok-one_number-in-Shared c =
-    (c.args.list.now, ap (λ w. spelling w ++ c.args.list.now) c.in-Shared.is, c.in_ok-one_number-in-Shared.ensures)
+pub returns-in-Shared : goal.returns-in-Shared
+returns-in-Shared c = rw c.in-Shared.is (search rules)
 
-pub returns-in_ok-one_number-in-Lacking : goal.returns-in_ok-one_number-in-Lacking
-returns-in_ok-one_number-in-Lacking c =
-    (c.args.list.now, ap (λ w. spelling w ++ c.args.list.now) c.in-Lacking.is, c.in_ok-one_number-in-Lacking.ensures)
+pub returns-in-Lacking : goal.returns-in-Lacking
+returns-in-Lacking c = rw c.in-Lacking.is (search rules)

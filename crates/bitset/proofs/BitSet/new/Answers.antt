@@ -10,5 +10,4 @@ returns c =
     record {
       roll = same_roll _ (λ _. false) _ _ _ _ (λ m. no_bit m _ (t.empty _ _)) (ap slots_of t.pools.0) (ap slots_of t.pools.1);
       pools = t.pools;
-      sound = t.sound;
     }

@@ -1,4 +1,4 @@
-use Rattle.std.proofs.Common.{◌≡◌, ℕ, ◌<◌, ap, ◌∙◌, arith}
+use Rattle.std.proofs.Common.{◌≡◌, ℕ, ◌<◌, ap, ◌∙◌, arith, rules}
 use Rattle.bits.specs.Bit.{bit}
 use Rattle.merge.proofs.Queue.{sum_end}
 use Rattle.merge.proofs.Counted.{adds_group, adds_blocks, groups_sum, blocks_sum, groups_few, blocks_few, groups_start, blocks_start, counted_one}
@@ -9,8 +9,9 @@ loop-i-init g c =
     let s = c.args.tree.now in
     let t = c.requires.sound in
     let x = g.X.LevelMasks.word c.args.x.now in
-    let top = c.level0_mask-top.result in
-    let covers : (i j : ℕ) → 0 < x i j → bit top i ≡ 1 = λ i j p. ap (λ m. bit m i) c.level0_mask-top.ensures ∙ c.rules.ensures.covers_top i j p in
+    let top = c.into_iter-i-iterator.result.word in
+    let e : top ≡ c.level0_mask.result = search rules in
+    let covers : (i j : ℕ) → 0 < x i j → bit top i ≡ 1 = λ i j p. ap (λ m. bit m i) (e ∙ c.level0_mask.ensures) ∙ c.rules.ensures.covers_top i j p in
     (omega (arith, groups_start s t x top covers), omega (arith, blocks_start s t x top covers))
 
 pub overflow_add-groups : goal.overflow_add-groups
@@ -19,7 +20,7 @@ overflow_add-groups g c =
     let x = g.X.LevelMasks.word c.args.x.now in
     let e = c.added-g.ensures.groups in
     let d : c.added-g.result.0 ≡ adds_group s x c.in-Some.i = omega arith in
-    omega (arith, counted_one c.loop-i.groups _ _ _ _ _ (adds_group s x) c.in-Some.ensures.bits d c.loop-i.invariant.0, groups_few s c.requires.sound x)
+    omega (arith, counted_one c.loop-i.groups _ _ _ _ _ (adds_group s x) c.in-Some.ensures.steps.0 d c.loop-i.invariant.0, groups_few s c.requires.sound x)
 
 pub overflow_add-blocks : goal.overflow_add-blocks
 overflow_add-blocks g c =
@@ -27,14 +28,14 @@ overflow_add-blocks g c =
     let x = g.X.LevelMasks.word c.args.x.now in
     let e = c.added-g.ensures.blocks in
     let d : c.added-g.result.1 ≡ adds_blocks s x c.in-Some.i = omega arith in
-    omega (arith, counted_one c.loop-i.blocks _ _ _ _ _ (adds_blocks s x) c.in-Some.ensures.bits d c.loop-i.invariant.1, blocks_few s c.requires.sound x)
+    omega (arith, counted_one c.loop-i.blocks _ _ _ _ _ (adds_blocks s x) c.in-Some.ensures.steps.0 d c.loop-i.invariant.1, blocks_few s c.requires.sound x)
 
 pub loop-i-preserved : goal.loop-i-preserved
 loop-i-preserved g c =
     let s = c.args.tree.now in
     let x = g.X.LevelMasks.word c.args.x.now in
     let i = c.in-Some.i in
-    let h = c.in-Some.ensures.bits in
+    let h = c.in-Some.ensures.steps.0 in
     let e = c.added-g.ensures in
     (counted_one c.loop-i.groups _ _ _ _ _ (adds_group s x) h (omega (arith, e.groups)) c.loop-i.invariant.0, counted_one c.loop-i.blocks _ _ _ _ _ (adds_blocks s x) h (omega (arith, e.blocks)) c.loop-i.invariant.1)
 
@@ -43,8 +44,8 @@ returns g c =
     let s = c.args.tree.now in
     let t = c.requires.sound in
     let x = g.X.LevelMasks.word c.args.x.now in
-    let z = c.in_default.ensures.bits.0 in
+    let z = c.in-None.ensures.steps.0.0 in
     record {
-      groups = omega (arith, c.loop-i.invariant.0, sum_end c.loop-i.top (adds_group s x) z, groups_sum s t x);
-      blocks = omega (arith, c.loop-i.invariant.1, sum_end c.loop-i.top (adds_blocks s x) z, blocks_sum s t x);
+      groups = omega (arith, c.loop-i.invariant.0, sum_end c.loop-i.i-iterator.word (adds_group s x) z, groups_sum s t x);
+      blocks = omega (arith, c.loop-i.invariant.1, sum_end c.loop-i.i-iterator.word (adds_blocks s x) z, blocks_sum s t x);
     }

@@ -30,5 +30,5 @@ returns g c j l =
     let m = c.init_level1_block_data-mask.result.0 in
     let w = g.X.LevelMasks.word c.args.x.now i j in
     let e : bit m j ≡ bit (g.X.LevelMasks.middle c.args.x.now i) j = ap (λ z. bit z j) c.init_level1_block_data-mask.ensures.mask in
-    let z : bit c.loop-j.left j ≡ 0 = ap (λ z. bit z j) c.in_default.ensures.bits.0 ∙ bit_of_zero j in
+    let z : bit c.loop-j.j-iterator.word j ≡ 0 = ap (λ z. bit z j) c.in-None.ensures.steps.0.0 ∙ bit_of_zero j in
     omega (arith, (c.loop-j.invariant j l).1, z, bit_and_not 64 m c.args.but j (omega (arith, c.ranges.but)) l, e, covered _ w (bit c.args.but j) (bit_lt _ j) (r.covers_middle i j))

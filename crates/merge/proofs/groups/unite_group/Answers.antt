@@ -1,4 +1,4 @@
-use Rattle.std.proofs.Common.{◌≡◌, ◌<◌, sym, ap, ◌∙◌, subst, arith}
+use Rattle.std.proofs.Common.{◌≡◌, ◌<◌, sym, ap, ◌∙◌, subst, arith, rules}
 use lib.Bits.{bit_or, or_zero_r}
 use Rattle.bits.specs.Bit.{bit}
 use Rattle.tree.specs.Steps.{Put}
@@ -13,9 +13,10 @@ loop-j-init g c =
     let s = c.args.tree.now in
     let i = c.args.i in
     let x = g.X.LevelMasks.word c.args.x.now in
+    let e : c.into_iter-j-iterator.result.word ≡ c.init_level1_block_data-mask.result.0 = search rules in
     start_places bit_or x i _ s c.requires.sound
     (λ b z.
-    let n : x i b ≡ 0 = unannounced (x i b) _ (c.rules.ensures.covers_middle i b) (ap (λ m. bit m b) (sym c.init_level1_block_data-left.ensures.mask) ∙ z) in
+    let n : x i b ≡ 0 = unannounced (x i b) _ (c.rules.ensures.covers_middle i b) (ap (λ m. bit m b) (sym (e ∙ c.init_level1_block_data-mask.ensures.mask)) ∙ z) in
     ap (bit_or (word s i b)) n ∙ or_zero_r (word s i b))
 
 pub join_block-requires : goal.join_block-requires
@@ -24,9 +25,9 @@ join_block-requires g c =
     let j = c.in-Some.j in
     let x = g.X.LevelMasks.word c.args.x.now in
     let m = c.loop-j.invariant in
-    let lj = c.in-Some.ensures.bits.within in
+    let lj = c.in-Some.ensures.steps.0.within in
     let w : 0 < c.data_mask_from_block_data-w.result = omega arith in
-    let e : c.data_mask_from_block_data-w.result ≡ x i j = c.data_mask_from_block_data-w.ensures i c.init_level1_block_data-left.ensures.made in
+    let e : c.data_mask_from_block_data-w.result ≡ x i j = c.data_mask_from_block_data-w.ensures i c.init_level1_block_data-mask.ensures.made in
     record {
       sound = m.sound;
       place = (c.requires.place, lj);
@@ -40,8 +41,8 @@ loop-j-preserved-then-w-ne0 g c =
     let j = c.in-Some.j in
     let x = g.X.LevelMasks.word c.args.x.now in
     let s = c.loop-j.tree in
-    let h = c.in-Some.ensures.bits in
-    let e : c.data_mask_from_block_data-w.result ≡ x i j = c.data_mask_from_block_data-w.ensures i c.init_level1_block_data-left.ensures.made in
+    let h = c.in-Some.ensures.steps.0 in
+    let e : c.data_mask_from_block_data-w.result ≡ x i j = c.data_mask_from_block_data-w.ensures i c.init_level1_block_data-mask.ensures.made in
     let p = subst (λ v. Put s c.join_block.new.self i j (bit_or (word s i j) v)) e c.join_block.ensures.put in
     both bit_or x _ _ _ _ _ _ c.loop-j.invariant (one_word bit_or x i j s _ p c.join_block.ensures.lent) (place_there _ _ _ h i) (place_gone _ _ _ h i)
 
@@ -51,10 +52,10 @@ loop-j-preserved g c =
     let j = c.in-Some.j in
     let x = g.X.LevelMasks.word c.args.x.now in
     let s = c.loop-j.tree in
-    let h = c.in-Some.ensures.bits in
-    let e : c.data_mask_from_block_data-w.result ≡ x i j = c.data_mask_from_block_data-w.ensures i c.init_level1_block_data-left.ensures.made in
+    let h = c.in-Some.ensures.steps.0 in
+    let e : c.data_mask_from_block_data-w.result ≡ x i j = c.data_mask_from_block_data-w.ensures i c.init_level1_block_data-mask.ensures.made in
     let n : x i j ≡ 0 = sym e ∙ c.if-w-ne0.false in
     both bit_or x _ _ _ _ _ _ c.loop-j.invariant (no_word bit_or x i j s c.loop-j.invariant.sound (ap (bit_or (word s i j)) n ∙ or_zero_r (word s i j))) (place_there _ _ _ h i) (place_gone _ _ _ h i)
 
 pub returns : goal.returns
-returns g c = repicked bit_or (g.X.LevelMasks.word c.args.x.now) _ _ _ _ (places_end c.args.i _ c.in_default.ensures.bits.0) c.loop-j.invariant
+returns g c = repicked bit_or (g.X.LevelMasks.word c.args.x.now) _ _ _ _ (places_end c.args.i _ c.in-None.ensures.steps.0.0) c.loop-j.invariant

@@ -19,6 +19,5 @@ returns g c =
       answer = says;
       members = c.on-answer.ensures.roll ∙ ap (λ r. next r ask) made;
       answers = c.after_list-set.ensures.answers;
-      sound = c.on-answer.ensures.sound;
       lent = (c.on-answer.ensures.lent.upper ∙ c.after_list-set.ensures.lent.0, c.on-answer.ensures.lent.lower ∙ c.after_list-set.ensures.lent.1);
     }

@@ -9,7 +9,7 @@ pub unreachable-requires : goal.unreachable-requires
 unreachable-requires c =
     let s = c.args.self.now in
     let h = c.requires.shape in
-    let full = c.in-None.ensures.taken (held_by (count1 s)) h.holds1 in
+    let full = c.in_default.ensures.taken (held_by (count1 s)) h.holds1 in
     omega (arith, full.tally_full, tally1 s h, c.requires.room (omega arith))
 
 pub returns : goal.returns

@@ -18,7 +18,7 @@ pub unreachable-requires : goal.unreachable-requires
 unreachable-requires c =
     let s = c.args.self.now in
     let h = c.requires.shape in
-    let full = c.in-None.ensures.taken (held_by (count2 s)) h.holds2 in
+    let full = c.in_default.ensures.taken (held_by (count2 s)) h.holds2 in
     omega (arith, full.tally_full, tally2 s h, c.requires.room)
 
 pub returns : goal.returns

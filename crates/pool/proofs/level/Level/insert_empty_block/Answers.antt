@@ -8,9 +8,6 @@ pop_empty_block-self-requires g c =
     let p = popped _ _ _ _ _ _ c.requires.1 c.if-self.true in
     omega (arith, p.high, p.all.room)
 
-pub overflow_sub-self : goal.overflow_sub-self
-overflow_sub-self g c = (popped _ _ _ _ _ _ c.requires.1 c.if-self.true).some
-
 pub returns-then-self : goal.returns-then-self
 returns-then-self g c =
     let blank = g.B.IBlock.kind.blank in

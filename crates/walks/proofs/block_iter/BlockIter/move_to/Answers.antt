@@ -25,7 +25,6 @@ returns-after-i-group g c =
           (left_whole s i (m i) (past s i _ c.zero_first_n-self.ensures.below lost.one w.if-i-group.false))
     ] in
     record {
-      sane = (c.requires.0, c.init_level1_block_data-left.ensures.made, lost.within);
       same = refl;
       onward = seek_some m s _ c.zero_first_n-self.result c.zero_first_n-self.ensures.below above i c.pop_front.new.word left lost c.in-Some.ensures.list h;
     }
@@ -36,7 +35,6 @@ returns-in-None g c =
     let above : (k : ℕ) → c.args.s / 4096 ≤ k → bit c.zero_first_n-self.result k ≡ bit (g.T.LevelMasks.top c.args.self.now.set) k =
     λ k h. c.zero_first_n-self.ensures.above k h ∙ ap (λ w. bit w k) c.level0_mask.ensures in
     record {
-      sane = c.requires;
       same = refl;
       onward = seek_none m c.args.s _ c.zero_first_n-self.result c.zero_first_n-self.ensures.below above c.args.self.now.i c.pop_front.new.word c.in-None.ensures.list.0 c.in-None.ensures.list.1;
     }

@@ -1,4 +1,4 @@
-use Rattle.std.proofs.Common.{refl, ap, ◌∙◌, arith}
+use Rattle.std.proofs.Common.{refl, ap, ◌∙◌}
 use Rattle.walks.specs.Pending.{whole}
 use Rattle.walks.proofs.Moves.{pending_start}
 use Rattle.walks.proofs.block_iter.BlockIter.new.Goals as goal
@@ -7,7 +7,6 @@ pub returns : goal.returns
 returns g c =
     let m = g.T.LevelMasks.middle c.args.set in
     record {
-      sane = (c.requires, c.init_level1_block_data-block.ensures.made, omega arith);
       same = refl;
       starts = pending_start m c.level0_mask-top.result ∙ ap (whole m) c.level0_mask-top.ensures;
     }

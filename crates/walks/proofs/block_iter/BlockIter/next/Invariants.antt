@@ -1,13 +1,12 @@
 use Rattle.std.proofs.Common.{◌≡◌, length}
 use Rattle.bits.specs.Places.{places}
-use Rattle.walks.specs.Left.{Sane, pairs_of}
+use Rattle.walks.specs.Left.{pairs_of}
 use Rattle.walks.proofs.block_iter.BlockIter.next.Given as goal
 
 abbrev pub invariant-loop-j : goal.invariant-loop-j
 invariant-loop-j g l =
-    Sane g.T.LevelMasks.ok g.T.LevelMasksIterExt.prepared l.self
-    × (l.self.set ≡ l.initial.self.set)
-    × (pairs_of g.T.LevelMasks.middle l.initial.self ≡ pairs_of g.T.LevelMasks.middle l.self)
+    (l.self.set ≡ l.initial.self.set)
+    × (pairs_of l.initial.self ≡ pairs_of l.self)
 
 abbrev pub decreases-loop-j : goal.decreases-loop-j
 decreases-loop-j g l = length (places l.self.top)

@@ -26,7 +26,6 @@ returns-after-start-s g c =
     let goes = sought_some g.T.LevelMasks.middle g.T.LevelMasks.word c.args.self.now.walk.set c.move_to.new.self.set c.next.new.self.set
     c.move_to.ensures.same told.same _ _ c.rules.ensures s _ _ _ c.move_to.ensures.onward a b c.in-Some.block.start_index v c.if-start-s.self _ _ _ at.0 at.1 at.2 h in
     record {
-      sane = (told.sane.0, told.sane.1, told.sane.2, omega (arith, at.1, at.3, at.4));
       same = told.same ∙ c.move_to.ensures.same;
       onward = goes;
       lists = subst (Lists (members (g.T.LevelMasks.word c.args.self.now.walk.set)) s) (sym goes) (lists_from _ s);
@@ -39,7 +38,6 @@ returns-in-None g c =
     let goes = sought_none g.T.LevelMasks.middle g.T.LevelMasks.word c.args.self.now.walk.set c.move_to.new.self.set c.next.new.self.set
     c.move_to.ensures.same told.same _ _ c.rules.ensures s _ _ _ c.move_to.ensures.onward _ _ _ c.args.self.now.start told.handed.0 told.handed.1 in
     record {
-      sane = (told.sane.0, told.sane.1, told.sane.2, c.requires.3);
       same = told.same ∙ c.move_to.ensures.same;
       onward = goes;
       lists = subst (Lists (members (g.T.LevelMasks.word c.args.self.now.walk.set)) s) (sym goes) (lists_from _ s);

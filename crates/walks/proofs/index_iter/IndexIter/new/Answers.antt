@@ -1,4 +1,4 @@
-use Rattle.std.proofs.Common.{◌≡◌, sym, ◌∙◌, subst, arith}
+use Rattle.std.proofs.Common.{◌≡◌, sym, ◌∙◌, subst}
 use Rattle.roll.specs.Members.{members}
 use Rattle.walks.specs.Pending.{pending, whole}
 use Rattle.walks.specs.Indices.{Lists, remaining, listed}
@@ -15,7 +15,6 @@ returns g c =
     ∙ whole_listed _ _ _ _ c.rules.ensures in
     let starts = subst (λ x. remaining (g.T.LevelMasks.middle x) (g.T.LevelMasks.word x) c.new.result.i c.new.result.left c.new.result.top 0 0 ≡ listed (members (g.T.LevelMasks.word c.args.set))) (sym c.new.ensures.same) at in
     record {
-      sane = (c.new.ensures.sane.0, c.new.ensures.sane.1, c.new.ensures.sane.2, omega arith);
       same = c.new.ensures.same;
       starts = starts;
       lists = subst (Lists (members (g.T.LevelMasks.word c.args.set)) 0) (sym starts) (lists_all _);

@@ -1,7 +1,0 @@
--- No space before i.
-use Rattle.std.proofs.Common.{◌≡◌, ℕ, ◌<◌, get_or}
-use Rattle.shift.specs.Fields.{space}
-use Rattle.shift.proofs.fields.field_end.Given as goal
-
-abbrev pub invariant-loop-i : goal.invariant-loop-i
-invariant-loop-i l = (k : ℕ) → k < l.i → get_or l.text k 0 ≡ space → ⊥

@@ -1,0 +1,101 @@
+//! The lines of the stored walks.
+use walks::block_iter::DataBlock;
+
+/// What a walk hands out.
+#[derive(Clone, Copy, PartialEq, Eq)]
+pub enum Item {
+    Block(DataBlock),
+    Index(usize),
+}
+
+impl From<DataBlock> for Item {
+    fn from(block: DataBlock) -> Item {
+        Item::Block(block)
+    }
+}
+
+impl From<usize> for Item {
+    fn from(index: usize) -> Item {
+        Item::Index(index)
+    }
+}
+
+#[derive(Clone, Copy)]
+pub enum Line<'t> {
+    /// A new set of that number and its members, or further members of it.
+    Set {
+        new: bool,
+        number: usize,
+        members: &'t str,
+    },
+    /// A block walk, an index walk over the pile of that number.
+    Blocks(usize),
+    Indices(usize),
+    /// A seek of that walk, and what next answered.
+    Seek(usize),
+    Next(Option<Item>),
+}
+
+impl Line<'_> {
+    /// Whether a family of sets begins here.
+    pub fn begins_family(&self) -> bool {
+        matches!(
+            self,
+            Line::Set {
+                new: true,
+                number: 0,
+                ..
+            }
+        )
+    }
+
+    /// Whether the line is asked of the walk before it.
+    pub fn is_asked(&self) -> bool {
+        matches!(self, Line::Seek(_) | Line::Next(_))
+    }
+
+    /// How many entries it makes: a new set, each member, and each other line are one.
+    pub fn entries(&self) -> usize {
+        match self {
+            Line::Set { new, members, .. } => members
+                .split_whitespace()
+                .count()
+                .saturating_add(usize::from(*new)),
+            _ => 1,
+        }
+    }
+}
+
+// A set's line; all its members are numbers.
+fn read_set<'t>(new: bool, number: &str, members: &'t str) -> Option<Line<'t>> {
+    if !members
+        .split_whitespace()
+        .all(|n| n.parse::<usize>().is_ok())
+    {
+        return None;
+    }
+    Some(Line::Set {
+        new,
+        number: number.parse().ok()?,
+        members,
+    })
+}
+
+pub(super) fn read_line<'t>(text: &'t str) -> Option<Line<'t>> {
+    let mut f = text.splitn(3, ' ');
+    let line = match (f.next()?, f.next()?, f.next()) {
+        ("s", k, members) => read_set(true, k, members.unwrap_or(""))?,
+        ("+", k, Some(members)) => read_set(false, k, members)?,
+        ("b", pile, None) => Line::Blocks(pile.parse().ok()?),
+        ("i", pile, None) => Line::Indices(pile.parse().ok()?),
+        ("m", s, None) => Line::Seek(s.parse().ok()?),
+        ("n", "-", None) => Line::Next(None),
+        ("n", n, None) => Line::Next(Some(Item::Index(n.parse().ok()?))),
+        ("n", start, Some(word)) => Line::Next(Some(Item::Block(DataBlock {
+            start_index: start.parse().ok()?,
+            bit_block: word.parse().ok()?,
+        }))),
+        _ => return None,
+    };
+    Some(line)
+}
