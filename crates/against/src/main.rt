@@ -4,7 +4,6 @@
 use anyhow::bail;
 use bitset::BitSet;
 use memory::Memory;
-use roll::Refusal;
 use std::alloc::Global;
 use std::io;
 use stored::{OLD_BLOCK, OLD_WORD, read_answer, read_lines, tell_none_differs};

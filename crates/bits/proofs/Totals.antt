@@ -1,5 +1,5 @@
 -- Sums, and what one changed term changes.
-use Rattle.std.proofs.Common.{◌≡◌, ℕ, zero, suc, ◌+◌, ◌-◌, ◌*◌, ◌<◌, ◌≤◌, ◌≢◌, sym, refl, ap, ⊎_elim, arith}
+use Rattle.std.proofs.Common.{◌≡◌, ℕ, zero, suc, ◌+◌, ◌-◌, ◌*◌, ◌<◌, ◌≤◌, ◌≢◌, refl, inl, inr, arith}
 use Rattle.std.proofs.lemmas.Bool.{cases_eq}
 use Rattle.bits.specs.Sums.{total}
 
@@ -12,31 +12,17 @@ total_same f g (suc n) e = omega (arith, e n (omega arith), total_same f g n (λ
 pub total_change : (f g : ℕ → ℕ) (n i : ℕ) → i < n → ((a : ℕ) → a ≢ i → g a ≡ f a) → total g n + f i ≡ total f n + g i
 unfolding total
 total_change f g zero i lt e = absurd (omega arith)
-total_change f g (suc n) i lt e =
-    ⊎_elim
-    (λ (here : n ≡ i).
-    let r : total g n ≡ total f n = total_same g f n (λ a l. e a (omega arith)) in
-    omega (arith, ap f here, ap g here))
-    (λ (there : n ≢ i). omega (arith, e n there, total_change f g n i (omega arith) e))
-    (cases_eq n i)
+total_change f g (suc n) i lt e = grind (arith, e n, λ (x : n ≡ i). total_same g f n (λ a l. e a (omega arith)), λ (l : i < n). total_change f g n i l e)
 
 pub total_at : (f : ℕ → ℕ) (n i : ℕ) → i < n → f i ≤ total f n
 unfolding total
 total_at f zero i lt = absurd (omega arith)
-total_at f (suc n) i lt =
-    ⊎_elim
-    (λ (here : n ≡ i). omega (arith, ap f here))
-    (λ (there : n ≢ i). omega (arith, total_at f n i (omega arith)))
-    (cases_eq n i)
+total_at f (suc n) i lt = grind (arith, total_at f n i)
 
 pub total_two : (f : ℕ → ℕ) (n a b : ℕ) → a < n → b < n → a ≢ b → f a + f b ≤ total f n
 unfolding total
 total_two f zero a b la lb ne = absurd (omega arith)
-total_two f (suc n) a b la lb ne =
-    ⊎_elim
-    (λ (x : n ≡ a). omega (arith, ap f x, total_at f n b (omega arith)))
-    (λ (x : n ≢ a). ⊎_elim (λ (y : n ≡ b). omega (arith, ap f y, total_at f n a (omega arith))) (λ (y : n ≢ b). omega (arith, total_two f n a b (omega arith) (omega arith) ne)) (cases_eq n b))
-    (cases_eq n a)
+total_two f (suc n) a b la lb ne = grind (arith, total_at f n a, total_at f n b, total_two f n a b)
 
 -- sums of sums
 pub total_sum : (f g h : ℕ → ℕ) (n : ℕ) → ((i : ℕ) → i < n → f i + g i ≡ h i) → total f n + total g n ≡ total h n
@@ -65,50 +51,31 @@ total_le f g (suc n) h = omega (arith, h n (omega arith), total_le f g n (λ i l
 pub total_gap : (f g : ℕ → ℕ) (n i : ℕ) → i < n → ((a : ℕ) → a < n → f a ≤ g a) → total f n + (g i - f i) ≤ total g n
 unfolding total
 total_gap f g zero i lt h = absurd (omega arith)
-total_gap f g (suc n) i lt h =
-    ⊎_elim
-    (λ (here : n ≡ i). omega (arith, ap f here, ap g here, h n (omega arith), total_le f g n (λ a l. h a (omega arith))))
-    (λ (there : n ≢ i). omega (arith, h n (omega arith), total_gap f g n i (omega arith) (λ a l. h a (omega arith))))
-    (cases_eq n i)
+total_gap f g (suc n) i lt h = grind (arith, h n, total_le f g n (λ a l. h a (omega arith)), λ (l : i < n). total_gap f g n i l (λ a k. h a (omega arith)))
 
 -- where the sum is not 0, one of its terms is not
 pub total_some : (f : ℕ → ℕ) (n : ℕ) → 0 < total f n → (i : ℕ) × (i < n) × (0 < f i)
 unfolding total
 total_some f zero h = absurd (omega arith)
 total_some f (suc n) h =
-    ⊎_elim
-    (λ (z : f n ≡ 0). let r = total_some f n (omega arith) in (r.0, omega (arith, r.1), r.2))
-    (λ (nz : f n ≢ 0). (n, omega arith, omega arith))
-    (cases_eq (f n) 0)
+    elim (cases_eq (f n) 0) [
+      | inl z ↦ let r = total_some f n (omega arith) in (r.0, omega (arith, r.1), r.2)
+      | inr nz ↦ (n, omega arith, omega arith)
+    ]
 
 -- the same of sums of sums
 pub totals_same : (f g : ℕ → ℕ → ℕ) (n m : ℕ) → ((i j : ℕ) → i < n → j < m → f i j ≡ g i j) → total (λ i. total (f i) m) n ≡ total (λ i. total (g i) m) n
 totals_same f g n m e = total_same (λ i. total (f i) m) (λ i. total (g i) m) n (λ i li. total_same (f i) (g i) m (λ j lj. e i j li lj))
 
 pub totals_change : (f g : ℕ → ℕ → ℕ) (n m i j : ℕ) → i < n → j < m → ((a b : ℕ) → ((a ≡ i) × (b ≡ j) → ⊥) → g a b ≡ f a b) → total (λ a. total (g a) m) n + f i j ≡ total (λ a. total (f a) m) n + g i j
-totals_change f g n m i j li lj e =
-    let inner = total_change (f i) (g i) m j lj (λ b ne. e i b (λ p. ne p.1)) in
-    let outer = total_change (λ a. total (f a) m) (λ a. total (g a) m) n i li (λ a ne. total_same (g a) (f a) m (λ b lb. e a b (λ p. ne p.0))) in
-    omega arith
+totals_change f g n m i j li lj e = omega (arith, total_change (f i) (g i) m j lj (λ b ne. e i b (λ p. ne p.1)), total_change (λ a. total (f a) m) (λ a. total (g a) m) n i li (λ a ne. total_same (g a) (f a) m (λ b lb. e a b (λ p. ne p.0))))
 
 pub totals_at : (f : ℕ → ℕ → ℕ) (n m i j : ℕ) → i < n → j < m → f i j ≤ total (λ a. total (f a) m) n
 totals_at f n m i j li lj = omega (arith, total_at (f i) m j lj, total_at (λ a. total (f a) m) n i li)
 
 pub totals_two : (f : ℕ → ℕ → ℕ) (n m i j a b : ℕ) → i < n → j < m → a < n → b < m → ((a ≡ i) × (b ≡ j) → ⊥) → f i j + f a b ≤ total (λ a. total (f a) m) n
 totals_two f n m i j a b li lj la lb ne =
-    ⊎_elim
-    (λ (x : a ≡ i).
-    let y : b ≢ j = λ y. ne (x, y) in
-    let two = total_two (f i) m j b lj lb (λ e. y (sym e)) in
-    let up = total_at (λ a. total (f a) m) n i li in
-    omega (arith, ap (λ z. f z b) x))
-    (λ (x : a ≢ i).
-    let two = total_two (λ a. total (f a) m) n i a li la (λ e. x (sym e)) in
-    omega (arith, total_at (f i) m j lj, total_at (f a) m b lb))
-    (cases_eq a i)
+    grind (arith, total_two (f i) m j b lj lb, total_at (λ a. total (f a) m) n i li, total_two (λ a. total (f a) m) n i a li la, total_at (f i) m j lj, total_at (f a) m b lb)
 
 pub totals_gap : (f g : ℕ → ℕ → ℕ) (n m i j : ℕ) → i < n → j < m → ((a b : ℕ) → a < n → b < m → f a b ≤ g a b) → total (λ a. total (f a) m) n + (g i j - f i j) ≤ total (λ a. total (g a) m) n
-totals_gap f g n m i j li lj h =
-    let inner = total_gap (f i) (g i) m j lj (λ b lb. h i b li lb) in
-    let outer = total_gap (λ a. total (f a) m) (λ a. total (g a) m) n i li (λ a la. total_le (f a) (g a) m (λ b lb. h a b la lb)) in
-    omega arith
+totals_gap f g n m i j li lj h = omega (arith, total_gap (f i) (g i) m j lj (λ b lb. h i b li lb), total_gap (λ a. total (f a) m) (λ a. total (g a) m) n i li (λ a la. total_le (f a) (g a) m (λ b lb. h a b la lb)))

@@ -15,7 +15,7 @@ pub fn get_bit(word: u64, k: usize) -> bool
     (word >> k) % 2 == 1
 }
 
-/// The word with bit k at 1.
+/// The word with bit k at 1. Beside `clear_bit`, and not one function with a const flag: neither contract has cases.
 pub fn set_bit(word: u64, k: usize) -> u64
     requires { k < 64 }
     ensures { (a : ℕ) → bit result a ≡ max (bit word a) (same a k) }

@@ -1,6 +1,6 @@
 -- Words of which one is replaced: their members' groups and blocks.
-use Rattle.std.proofs.Common.{◌≡◌, ℕ, ◌+◌, ◌-◌, ◌^◌, ◌<◌, true, false, cond, eqb, ◌≢◌, refl, ap, ⊎_elim, arith}
-use Rattle.std.proofs.lemmas.Bool.{cases_eq, eq-eqb, ne_eqb}
+use Rattle.std.proofs.Common.{◌≡◌, ℕ, ◌+◌, ◌-◌, ◌^◌, ◌<◌, cond, eqb, refl, ap, arith}
+use Rattle.std.proofs.lemmas.Bool.Decides.{nat_tests}
 use Rattle.bits.specs.Sums.{total, some}
 use Rattle.bits.proofs.Totals.{total_same, total_change, total_at, totals_change}
 use Rattle.roll.specs.Members.{groups, blocks, members}
@@ -11,32 +11,14 @@ abbrev pub over : (ℕ → ℕ → ℕ) → ℕ → ℕ → ℕ → ℕ → ℕ 
 over word i j v a b = cond (eqb a i) (cond (eqb b j) v (word a b)) (word a b)
 
 pub over_here : (word : ℕ → ℕ → ℕ) (i j v a b : ℕ) → a ≡ i → b ≡ j → over word i j v a b ≡ v
-over_here word i j v a b x y =
-    let e : eqb a i ≡ true = eq-eqb a i x in
-    let f : eqb b j ≡ true = eq-eqb b j y in
-    rw (e, f)
+over_here word i j v a b x y = grind (arith, nat_tests)
 
 pub over_there : (word : ℕ → ℕ → ℕ) (i j v a b : ℕ) → ((a ≡ i) × (b ≡ j) → ⊥) → over word i j v a b ≡ word a b
-over_there word i j v a b ne =
-    ⊎_elim
-    (λ (x : a ≡ i).
-    let e : eqb a i ≡ true = eq-eqb a i x in
-    let f : eqb b j ≡ false = ne_eqb b j (λ y. ne (x, y)) in
-    rw (e, f))
-    (λ (x : a ≢ i). let e : eqb a i ≡ false = ne_eqb a i x in rw e)
-    (cases_eq a i)
+over_there word i j v a b ne = grind (arith, nat_tests)
 
 module _ (word : ℕ → ℕ → ℕ) (i j v : ℕ) (li : i < 64) (lj : j < 64) (fits : (a b : ℕ) → word a b < 2 ^ 64) (fv : v < 2 ^ 64) where
   over_fits : (a b : ℕ) → over word i j v a b < 2 ^ 64
-  over_fits a b =
-      ⊎_elim
-      (λ (x : a ≡ i).
-      ⊎_elim
-      (λ (y : b ≡ j). omega (arith, over_here word i j v a b x y))
-      (λ (y : b ≢ j). omega (arith, over_there word i j v a b (λ p. y p.1), fits a b))
-      (cases_eq b j))
-      (λ (x : a ≢ i). omega (arith, over_there word i j v a b (λ p. x p.0), fits a b))
-      (cases_eq a i)
+  over_fits a b = grind (arith, nat_tests, fits a b)
 
   -- a word above 0 at (i, j) makes one group and one block more, where they were empty
   pub over_groups : 0 < v → groups (members (over word i j v)) ≡ total (λ a. some (total (λ b. some (word a b)) 64)) 64 + (1 - some (total (λ b. some (word i b)) 64))

@@ -26,7 +26,9 @@ mod merges;
 #[derive(Drop)]
 pub struct BitSet<'a> {
     tree: Tree<'a>,
-    // what every set keeps to; `stands` says what it means for each slot
+    // What every set keeps to; `stands` says what it means for each slot. A field and no model: contracts speak of the
+    // tree's fields too, which a view would hide (`stands`, and the clauses `lent` and `kept`, which tie the set before a
+    // change to the set after it and so can be no field's fact).
     ghost sound: { ∥ Sound tree ∥₁ },
 }
 
@@ -55,7 +57,7 @@ impl<'a> BitSet<'a> {
         BitSet { tree }
     }
 
-    /// An empty set over two lent slices, whatever they hold.
+    /// An empty set over two lent slices, whatever they hold. Two slices and no struct of both: each clause is about one.
     pub fn over(level1: &'a mut [Block], data: &'a mut [u64]) -> BitSet<'a>
         requires level1 { 0 < length level1.old }
         requires words { 0 < length «data».old }

@@ -93,8 +93,8 @@ fn constants(rt: HostRuntime) {
     let band = Band { group: 3, word: 1 };
     assert!(rt; constant_agrees(&v) && constant_agrees(&band));
     assert!(rt; constant_agrees(&or) && constant_agrees(&and));
-    assert!(rt; constant_agrees(&Apply::new(Or, or, and),));
-    assert!(rt; constant_agrees(&Apply::new(Or, v, band),));
+    assert!(rt; constant_agrees(&Apply::new(Or, or, and)));
+    assert!(rt; constant_agrees(&Apply::new(Or, v, band)));
 }
 
 #[test]
@@ -104,7 +104,8 @@ fn a_users_own(rt: HostRuntime) {
     assert!(rt; contains(&band, 12289) && !contains(&band, 1));
     assert!(rt; !contains(&none, 12289) && contains(&none, 262143));
     assert!(rt; !contains(&none, 262144));
-    let mut walk = IndexIter::new(Apply::new(And, band, none));
+    assert!(rt; contains(&&none, 262143) && !contains(&&none, 262144));
+    let mut walk = IndexIter::new(Apply::new(And, &band, &none));
     assert_eq!(rt; walk.next(), None);
     let mut rest = IndexIter::new(none);
     rest.move_to(12288);

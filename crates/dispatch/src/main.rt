@@ -16,7 +16,7 @@ use memory::Memory;
 use operands::apply::Apply;
 use operands::bitset_interface::{LevelMasksIterExt, contains};
 use ops::{And, Or, Sub};
-use pool::block::Block;
+use pool::block::{Block, IBlock};
 use shift::Step;
 use std::process::ExitCode;
 use std::{env, fs, io};
@@ -25,12 +25,6 @@ use walks::index_iter::IndexIter;
 
 // The largest pool that a shift may ask for: a slot for each of the 64 * 64 blocks.
 const MOST_SLOTS: u64 = 4096;
-
-// What the memory holds before it is lent.
-const EMPTY: Block = Block {
-    mask: 0,
-    slots: [0; 64],
-};
 
 const HELP: &str =
     "dispatch: runs a shift of two snow groomers on their coverage maps and tells each step
@@ -132,8 +126,8 @@ fn tell(rt: &HostRuntime, text: &str) -> anyhow::Result<()> {
     println!(rt;
         "line {line}: two machines' maps, each with slots for groups {groups}, for blocks {blocks}"
     )?;
-    let mut first = Memory::new(rt.alloc(), groups, blocks, EMPTY, 0)?;
-    let mut second = Memory::new(rt.alloc(), groups, blocks, EMPTY, 0)?;
+    let mut first = Memory::new(rt.alloc(), groups, blocks, Block::empty(), 0)?;
+    let mut second = Memory::new(rt.alloc(), groups, blocks, Block::empty(), 0)?;
     let mut slope = Slope::new(rt, first.set(), second.set());
     for (i, text) in text.lines().enumerate().skip(line) {
         slope.step(Line {
@@ -259,7 +253,7 @@ fn change(rt: &HostRuntime, set: &mut BitSet, line: Line, step: Step) -> anyhow:
     Ok(())
 }
 
-// The members of an operand from a cell on, and how many they are.
+// The members of an operand from a cell on, and how many they are. A loop: it prints each and may fail at each.
 fn tell_cells<T: LevelMasksIterExt + Drop>(
     rt: &HostRuntime,
     set: T,

@@ -35,7 +35,8 @@ impl Memory {
         })
     }
 
-    /// An empty set over it.
+    /// An empty set over it. That there is a slot 0 is asked, and no ghost field: no proof is made yet of a function that
+    /// lends two fields out of a struct that has one.
     pub fn set(&mut self) -> BitSet<'_>
         requires { (0 < length self.old.level1.items) × (0 < length self.old.words.items) }
         ensures { roll_of result ≡ nobody (length self.old.level1.items - 1) (length self.old.words.items - 1) }

@@ -20,7 +20,8 @@ pub trait LevelMasks {
 
     ghost trusted: { Bool };
 
-    /// Does nothing: its contract says the cover rule and, where it is owed, the trust rule.
+    /// Does nothing: its contract says the cover rule and, where it is owed, the trust rule. A law of the trait would
+    /// speak of every number in a field, also of those that no word holds.
     fn rules(&self)
         ensures { Ruled trusted (top self.now) (middle self.now) (word self.now) };
 
@@ -55,7 +56,8 @@ pub trait LevelMasksIterExt: LevelMasks {
         ensures { (i : ℕ) → prepared self.now i block.now → result ≡ Self.LevelMasks.word self.now i j };
 }
 
-/// Whether an operand has the index; any index may be asked.
+/// Whether an operand has the index; any index may be asked. The test of the range is the set's too, which answers a
+/// refusal by it; here there is none to answer.
 pub fn contains<S: LevelMasks>(s: &S, index: usize) -> bool
     ensures { result ≡ members (S.LevelMasks.word s.now) index }
 {

@@ -9,11 +9,13 @@ ghost use Rattle.pool.specs.Levels.{Holds, Good, Fresh, Taken, Given, Wrote, pic
 use super::block::{Block, IBlock, set_place};
 use roll::Refusal;
 
-/// The link that ends the chain of free blocks, 2^64 - 1.
+/// The link that ends the chain of free blocks, 2^64 - 1. A number and no `Option`: a link stands in the first word of the
+/// free block itself, in the lent memory, and the root is moved from and to there.
 pub const NO_BLOCK: u64 = 0xffff_ffff_ffff_ffff;
 
 /// A pool. Slot 0 is never taken and always empty; the other slots are held, stand on the chain of
-/// free blocks, or have never been taken.
+/// free blocks, or have never been taken. The lent slice is all its memory, so free blocks are an arena of indices.
+// `Good` is asked and kept by three functions and no ghost field: `put` writes any block into any slot.
 #[derive(Drop)]
 pub struct Level<'a, B> {
     blocks: &'a mut [B],

@@ -1,7 +1,7 @@
 //! What the set answers by: the refusals and, in specs/, the roll of members.
 #![tactic(auto)]
 
-ghost use Rattle.std.specs.Prelude.{◌≡◌, Some};
+ghost use Rattle.std.specs.Prelude.{◌≡◌, Some, codes};
 ghost use Rattle.roll.specs.Refusals.{number, phrase, code_of, Names};
 
 use std::error::Error;
@@ -72,8 +72,10 @@ impl Error for Refusal {}
 pub struct UnknownNumber(pub u64);
 
 impl fmt::Display for UnknownNumber {
+    ghost output = { λ _. Some (codes "no refusal has this number") };
+
     fn fmt<W: fmt::Write>(&self, f: &mut fmt::Formatter<W>) -> fmt::Result {
-        write!(f, "no refusal has the number {}", self.0)
+        f.write_str("no refusal has this number")
     }
 }
 

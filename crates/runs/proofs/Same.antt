@@ -1,22 +1,18 @@
 -- Lists keep how many slots there are, so equal members in equally long slices make equal rolls; and lists that ask
 -- the same are equal.
-use Rattle.std.proofs.Common.{◌≡◌, ℕ, ◌-◌, Bool, true, false, cond, List, [], ◌∷◌, length, sym, refl, ap, ◌∙◌}
+use Rattle.std.proofs.Common.{◌≡◌, ℕ, Bool, List, [], ◌∷◌, length, refl, ap, ◌∙◌, arith}
 use mathlib.Core.Path.{fun_ext}
-use Rattle.roll.specs.Roll.{Roll, answer, made, refuses}
-use Rattle.roll.specs.Merges.{Unite, Intersect, merge_answer, joint}
+use Rattle.roll.specs.Roll.{Roll, made}
+use Rattle.roll.specs.Merges.{Unite, Intersect, joint}
 use Rattle.bitset.proofs.Calls.{same_roll}
 use Rattle.runs.specs.Asks.{Ask, Ordered, Merged, Indices, Blocks, PileHas, PileIndices, next, leaves, new_roll}
 use Rattle.runs.specs.SameAsks.{SameAsk, itself, unite, intersect, pile_has, pile_indices, SameAsks, none, more}
 
-cond_same : {X : Type 0} (f : Roll → X) (b : Bool) (r s : Roll) → f s ≡ f r → f (cond b r s) ≡ f r
-cond_same f true r s e = refl
-cond_same f false r s e = e
-
 -- what a call cannot change of a roll, a list cannot
 module _ {X : Type 0} (f : Roll → X) (keeps : (r : Roll) (M : ℕ → Bool) → f (record { has = M; P = r.P; Q = r.Q }) ≡ f r) where
   next_keeps : (r : Roll) (a : Ask) → f (next r a) ≡ f r
-  next_keeps r (Ordered c) = cond_same f (refuses (answer r c)) r (record { has = made r.has c; P = r.P; Q = r.Q }) (keeps r (made r.has c))
-  next_keeps r (Merged c) = cond_same f (refuses (merge_answer r c)) r (record { has = joint r.has c; P = r.P; Q = r.Q }) (keeps r (joint r.has c))
+  next_keeps r (Ordered c) = grind (arith, keeps r (made r.has c))
+  next_keeps r (Merged c) = grind (arith, keeps r (joint r.has c))
   next_keeps r (Indices acts) = refl
   next_keeps r (Blocks acts) = refl
   next_keeps r (PileHas fill n) = refl
@@ -32,8 +28,7 @@ same_left u1 l1 u2 l2 x y eu el em =
     let r = leaves (new_roll u1 l1) x in
     let s = leaves (new_roll u2 l2) y in
     same_roll r.has s.has r.P s.P r.Q s.Q em
-    (leaves_keeps (λ z. z.P) (λ _ _. refl) (new_roll u1 l1) x ∙ ap (λ n. n - 1) eu ∙ sym (leaves_keeps (λ z. z.P) (λ _ _. refl) (new_roll u2 l2) y))
-    (leaves_keeps (λ z. z.Q) (λ _ _. refl) (new_roll u1 l1) x ∙ ap (λ n. n - 1) el ∙ sym (leaves_keeps (λ z. z.Q) (λ _ _. refl) (new_roll u2 l2) y))
+    (simp (leaves_keeps (λ z. z.P) (λ _ _. refl), eu)) (simp (leaves_keeps (λ z. z.Q) (λ _ _. refl), el))
 
 same_ask : {a b : Ask} → SameAsk a b → a ≡ b
 same_ask (itself a) = refl

@@ -42,7 +42,8 @@ pub fn answers_of<T: LevelMasksIterExt + Drop>(
     run(heap, &mut walk, actions)
 }
 
-/// Does nothing: its contract says that operands with the same members get the same answers.
+/// Does nothing: its contract says that operands with the same members get the same answers. That of `acts` says it of
+/// block walks too; this one is the theorem of this crate's callers.
 pub fn same_answers()
     ensures { SameAnswers }
 {}

@@ -27,7 +27,8 @@ pub const OLD_BLOCK: Block = Block {
 /// What a word holds before it is lent.
 pub const OLD_WORD: u64 = 0xdead_beef_dead_beef;
 
-/// What each line of a text reads as; a line that reads as nothing is an error.
+/// What each line of a text reads as; a line that reads as nothing is an error, which tells the line. So a reader answers
+/// an `Option`: an error type of its own would say nothing more.
 pub fn read_lines<'t, T: Drop, F: Fn(&'t str) -> Option<T>>(
     heap: Global,
     text: &'t str,
@@ -44,7 +45,8 @@ pub fn read_lines<'t, T: Drop, F: Fn(&'t str) -> Option<T>>(
     Ok(items)
 }
 
-/// What goes to a pile of combinations, whatever its type. What comes of it depends on the pile's members.
+/// What goes to a pile of combinations, whatever its type. What comes of it depends on the pile's members, by any relation,
+/// where an asker of a list of calls answers a function of them.
 pub trait Visit {
     type Answer;
 

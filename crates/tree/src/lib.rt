@@ -14,7 +14,8 @@ mod inserts;
 mod reads;
 mod removes;
 
-/// Which of the 64 groups are there, and the slots of their level-1 blocks.
+/// Which of the 64 groups are there, and the slots of their level-1 blocks; slot 0 stands for none, as in those blocks.
+/// No generic type with `Block`: this one is in no pool, and nothing is done to both.
 #[derive(Clone, Copy)]
 pub struct Level0Block {
     mask: u64,
@@ -22,6 +23,10 @@ pub struct Level0Block {
 }
 
 /// 64 * 64 words, of which only those above 0 take a slot.
+// Its functions ask for `Sound` or `Shape`, and no ghost field says it: between two steps of a change a tree is not
+// sound, within a step it has not even its shape (a pool is written before the block that names its slot), and those
+// steps are functions over this type. `BitSet`, whose calls are whole changes, says it by its type.
+// (i, j) are two numbers and a clause `place`: as a struct each contract would name both through it, some four times.
 #[derive(Drop)]
 pub struct Tree<'a> {
     level0: Level0Block,

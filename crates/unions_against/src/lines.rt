@@ -3,8 +3,6 @@ use stored::read_answer;
 
 #[derive(Clone, Copy)]
 pub enum Call {
-    /// A new, empty set: its slots for groups and for blocks.
-    New(u16, u16),
     Insert(usize),
     InsertBlock(usize, u64),
     Remove(usize),
@@ -25,18 +23,26 @@ pub struct Counts {
 
 pub type Answer = stored::Answer<Counts>;
 
+/// A line is of one of four sets, which it names by a number, 0 to 3.
 #[derive(Clone, Copy)]
-pub struct Line {
-    /// The set that is called, 0 to 3.
-    pub set: usize,
-    pub call: Call,
-    pub answer: Answer,
+pub enum Line {
+    /// A new, empty set, with its slots for groups and for blocks.
+    New {
+        set: usize,
+        groups: u16,
+        blocks: u16,
+    },
+    Asked {
+        set: usize,
+        call: Call,
+        answer: Answer,
+    },
 }
 
 impl Line {
     /// Whether a run begins here: with a new set 0.
     pub fn begins_run(&self) -> bool {
-        matches!(self.call, Call::New(_, _)) && self.set == 0
+        matches!(self, Line::New { set: 0, .. })
     }
 }
 
@@ -68,10 +74,18 @@ fn read_call(op: &str, number: &str) -> Option<Call> {
 pub(super) fn read_line(text: &str) -> Option<Line> {
     let mut f = text.split(' ');
     let (op, set) = (f.next()?, read_set(f.next()?)?);
-    let accepted = Answer::Change(Ok(()));
     let (call, answer) = match (op, f.next()?, f.next(), f.next(), f.next()) {
-        ("s", p, Some(q), None, None) => (Call::New(p.parse().ok()?, q.parse().ok()?), accepted),
-        ("n", pile, None, None, None) => (Call::Intersect(pile.parse().ok()?), accepted),
+        ("s", groups, Some(blocks), None, None) => {
+            return Some(Line::New {
+                set,
+                groups: groups.parse().ok()?,
+                blocks: blocks.parse().ok()?,
+            });
+        }
+        ("n", pile, None, None, None) => (
+            Call::Intersect(pile.parse().ok()?),
+            Answer::Change(Ok(())),
+        ),
         ("m", g, Some(b), Some(n), Some(sum)) => (Call::Members, read_counts(g, b, n, sum)?),
         ("b", start, Some(word), Some(r), None) => (
             Call::InsertBlock(start.parse().ok()?, word.parse().ok()?),
@@ -80,5 +94,5 @@ pub(super) fn read_line(text: &str) -> Option<Line> {
         (op, n, Some(r), None, None) => (read_call(op, n)?, read_answer(r)?),
         _ => return None,
     };
-    Some(Line { set, call, answer })
+    Some(Line::Asked { set, call, answer })
 }

@@ -19,7 +19,7 @@ use stored::{OLD_BLOCK, OLD_WORD, read_lines, tell_none_differs};
 use view::View;
 use walks::index_iter::IndexIter;
 
-// How many members an operand has, and their sum, each times its place in order from 1.
+// How many members an operand has, and their sum, each times its place in order from 1. A loop: it makes both in one walk.
 fn checksum<T: LevelMasksIterExt + Drop>(set: T) -> (u64, u64) {
     let mut count = 0u64;
     let mut sum = 0u64;
@@ -42,11 +42,11 @@ fn counts(set: &BitSet) -> Counts {
     }
 }
 
-// What the port answers to a call on a set, where a, b and c are the others.
+// What the port answers to a call on a set, where a, b and c are the others. The sets come one by one, not as an array:
+// the one that is called is lent to write among the others.
 fn ask(set: &mut BitSet, a: &BitSet, b: &BitSet, c: &BitSet, call: Call) -> Answer {
     let others = [View::new(a), View::new(b), View::new(c)];
     match call {
-        Call::New(_, _) => Answer::Change(Ok(())),
         Call::Insert(n) => set.insert(n).into(),
         Call::InsertBlock(start, word) => set.insert_block(start, word).into(),
         Call::Remove(n) => set.remove(n).into(),
@@ -56,22 +56,30 @@ fn ask(set: &mut BitSet, a: &BitSet, b: &BitSet, c: &BitSet, call: Call) -> Answ
     }
 }
 
-// The same, for the set that the line names.
-fn step(a: &mut BitSet, b: &mut BitSet, c: &mut BitSet, d: &mut BitSet, line: Line) -> Answer {
-    match line.set {
-        0 => ask(a, b, c, d, line.call),
-        1 => ask(b, a, c, d, line.call),
-        2 => ask(c, a, b, d, line.call),
-        _ => ask(d, a, b, c, line.call),
-    }
+// Whether the port answers a line in another way, where a new set is asked nothing.
+fn differs(a: &mut BitSet, b: &mut BitSet, c: &mut BitSet, d: &mut BitSet, line: Line) -> bool {
+    let Line::Asked { set, call, answer } = line else {
+        return false;
+    };
+    let said = match set {
+        0 => ask(a, b, c, d, call),
+        1 => ask(b, a, c, d, call),
+        2 => ask(c, a, b, d, call),
+        _ => ask(d, a, b, c, call),
+    };
+    said != answer
 }
 
 // The slots of a set by its line; none without one.
 fn slots(lines: &[Line], k: usize) -> (u16, u16) {
     lines
         .iter()
-        .find_map(|line| match line.call {
-            Call::New(p, q) if line.set == k => Some((p, q)),
+        .find_map(|line| match *line {
+            Line::New {
+                set,
+                groups,
+                blocks,
+            } if set == k => Some((groups, blocks)),
             _ => None,
         })
         .unwrap_or((0, 0))
@@ -97,7 +105,7 @@ fn run(heap: Global, lines: &[Line]) -> anyhow::Result<usize> {
     let mut d = memory3.set();
     let differ = lines
         .iter()
-        .filter(|line| step(&mut a, &mut b, &mut c, &mut d, **line) != line.answer)
+        .filter(|line| differs(&mut a, &mut b, &mut c, &mut d, **line))
         .count();
     Ok(differ)
 }
@@ -106,7 +114,14 @@ fn run(heap: Global, lines: &[Line]) -> anyhow::Result<usize> {
 fn unites(lines: &[Line], answer: Result<(), Refusal>) -> usize {
     lines
         .iter()
-        .filter(|line| matches!(line.call, Call::Unite(_)) && line.answer == answer.into())
+        .filter(|line| match **line {
+            Line::Asked {
+                call: Call::Unite(_),
+                answer: said,
+                ..
+            } => said == answer.into(),
+            _ => false,
+        })
         .count()
 }
 
@@ -118,7 +133,15 @@ fn tell(rt: &HostRuntime, lines: &[Line], differ: usize) -> anyhow::Result<()> {
     let fours = unites(lines, Err(Refusal::BlocksFull));
     let cuts = lines
         .iter()
-        .filter(|line| matches!(line.call, Call::Intersect(_)))
+        .filter(|line| {
+            matches!(
+                line,
+                Line::Asked {
+                    call: Call::Intersect(_),
+                    ..
+                }
+            )
+        })
         .count();
     println!(rt;
         "{all} lines: {taken} unites accepted, {threes} refused with 3, {fours} with 4, {cuts} intersects, {differ} differ"

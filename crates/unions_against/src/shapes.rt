@@ -45,7 +45,8 @@ impl Visit for Intersect<'_, '_> {
     }
 }
 
-/// A visit to the pile of that number over three sets.
+/// A visit to the pile of that number over three sets. The stored lines name piles by number, and an enum would be a
+/// second list of them; each pile has a type of its own, so no table of values holds them.
 pub(super) fn visit_pile<V: Visit>(v: V, pile: usize, sets: [View; 3]) -> V::Answer
     ensures { (M : ℕ → Bool) × V.Visit.sees v M result }
 {

@@ -1,7 +1,6 @@
 -- The rules of a stored set: its masks are exact.
-use Rattle.std.proofs.Common.{◌^◌, ◌<◌, ◌≤◌, true, ap, ⊎_elim, arith}
-use Rattle.std.proofs.lemmas.Bool.{cases_lt}
-use Rattle.bits.proofs.Laws.{bit_past, bit_pos}
+use Rattle.std.proofs.Common.{◌^◌, ◌<◌, true, ap, arith}
+use Rattle.bits.proofs.Laws.{bit_pos}
 use Rattle.pool.specs.declared.block.Block.{Block}
 use Rattle.bits.specs.Sums.{some}
 use Rattle.tree.specs.Trees.{node, word, Sound}
@@ -9,6 +8,7 @@ use Rattle.tree.specs.declared.Tree.{Tree}
 use Rattle.tree.proofs.Covers.{covers_top, covers_middle}
 use Rattle.tree.proofs.Facts.{past1, past2, node0, slot0, word0}
 use Rattle.bits.proofs.Totals.{total_some}
+use Rattle.operands.proofs.Applied.{bit_place}
 use Rattle.operands.specs.Ruled.{Ruled}
 
 module _ (s : Tree) (t : Sound s) where
@@ -23,15 +23,8 @@ module _ (s : Tree) (t : Sound s) where
     covers_top = covers_top s t;
     covers_middle = covers_middle s t;
     trusts_top = λ _ i b.
-        ⊎_elim
-        (λ (l : i < 64).
+        let l = bit_place s.level0.mask i f b in
         let w = total_some (λ j. some (word s i j)) 64 (omega (arith, t.0.top i l, t.1.groups_full i)) in
-        bit_pos (node s i).mask w.0 (covers_middle s t i w.0 (omega (arith, w.2))))
-        (λ (g : 64 ≤ i). absurd (omega (arith, bit_past 64 s.level0.mask i f g)))
-        (cases_lt i 64);
-    trusts_middle = λ _ i j b.
-        ⊎_elim
-        (λ (l : j < 64). omega (arith, t.0.middle i j l, t.1.words_full i j))
-        (λ (g : 64 ≤ j). absurd (omega (arith, bit_past 64 (node s i).mask j (t.0.fits1 i) g)))
-        (cases_lt j 64);
+        bit_pos (node s i).mask w.0 (covers_middle s t i w.0 (omega (arith, w.2)));
+    trusts_middle = λ _ i j b. omega (arith, t.0.middle i j (bit_place (node s i).mask j (t.0.fits1 i) b), t.1.words_full i j);
   }

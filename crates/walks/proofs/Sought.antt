@@ -7,7 +7,7 @@ use Rattle.roll.specs.Members.{members}
 use Rattle.walks.specs.Pending.{pending, whole, onward}
 use Rattle.walks.specs.Indices.{remaining, listed, from}
 use Rattle.walks.proofs.Skip.{skip_some, skip_none}
-use Rattle.walks.proofs.Steps.{rem_is, rem_none}
+use Rattle.walks.proofs.Steps.{rem_none}
 use Rattle.walks.proofs.Whole.{whole_listed}
 
 -- a seek to n: the set before, after the walk over blocks has moved, and after it has handed out a block
@@ -17,17 +17,13 @@ module _ {S : Type 0} (mid : S → ℕ → ℕ) (word : S → ℕ → ℕ → �
   pub sought_some : (a b st v left i' l' t' : ℕ) → pending (mid s') i l t ≡ (a, b) ∷ pending (mid s'') i' l' t' → st ≡ 4096 * a + 64 * b → v ≡ word s' a b →
       (n ≤ 4096 * a + 64 * b + 63 → (k : ℕ) → k < 64 → (n ≤ 4096 * a + 64 * b + k → bit left k ≡ bit v k) × (4096 * a + 64 * b + k < n → bit left k ≡ 0)) →
       remaining (mid s'') (word s'') i' l' t' st left ≡ from n (listed (members (word s)))
+  unfolding remaining
   sought_some a b st v left i' l' t' p es q h =
-      ap (λ x. remaining (mid s'') (word s'') i' l' t' x left) es
-      ∙ ap (λ x. remaining (mid x) (word x) i' l' t' (4096 * a + 64 * b) left) (f ∙ e)
-      ∙ rem_is (mid s) (word s) i' l' t' (4096 * a + 64 * b) left
-      ∙ skip_some (word s) (mid s) top n a b left (pending (mid s) i' l' t') (sym moved ∙ p ∙ ap (λ x. (a, b) ∷ pending (mid x) i' l' t') (f ∙ e))
-      (λ y k z. ((λ u. (h y k z).0 u ∙ ap (λ x. bit x k) (q ∙ ap (λ x. word x a b) e)), (h y k z).1))
-      ∙ ap (from n) (whole_listed trusted top (mid s) (word s) r)
+      let z = rw (q, e) at h in
+      let x = rw (f, e) at (sym moved ∙ p) in
+      rw (es, f, e, skip_some (word s) (mid s) top n a b left (pending (mid s) i' l' t') x z) (ap (from n) (whole_listed trusted top (mid s) (word s) r))
 
   pub sought_none : (i' l' t' start : ℕ) → pending (mid s') i l t ≡ [] → pending (mid s'') i' l' t' ≡ [] →
       remaining (mid s'') (word s'') i' l' t' start 0 ≡ from n (listed (members (word s)))
   sought_none i' l' t' start p q =
-      rem_none (mid s'') (word s'') i' l' t' start 0 places_zero q
-      ∙ sym (skip_none (word s) (mid s) top n (sym moved ∙ p))
-      ∙ ap (from n) (whole_listed trusted top (mid s) (word s) r)
+      rw (rem_none (mid s'') (word s'') i' l' t' start 0 places_zero q, sym (skip_none (word s) (mid s) top n (sym moved ∙ p))) (ap (from n) (whole_listed trusted top (mid s) (word s) r))

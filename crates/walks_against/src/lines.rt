@@ -22,12 +22,10 @@ impl From<usize> for Item {
 
 #[derive(Clone, Copy)]
 pub enum Line<'t> {
-    /// A new set of that number and its members, or further members of it.
-    Set {
-        new: bool,
-        number: usize,
-        members: &'t str,
-    },
+    /// A new set of that number and its members.
+    New(usize, &'t str),
+    /// Further members of the set of that number.
+    More(usize, &'t str),
     /// A block walk, an index walk over the pile of that number.
     Blocks(usize),
     Indices(usize),
@@ -39,14 +37,7 @@ pub enum Line<'t> {
 impl Line<'_> {
     /// Whether a family of sets begins here.
     pub fn begins_family(&self) -> bool {
-        matches!(
-            self,
-            Line::Set {
-                new: true,
-                number: 0,
-                ..
-            }
-        )
+        matches!(self, Line::New(0, _))
     }
 
     /// Whether the line is asked of the walk before it.
@@ -57,35 +48,26 @@ impl Line<'_> {
     /// How many entries it makes: a new set, each member, and each other line are one.
     pub fn entries(&self) -> usize {
         match self {
-            Line::Set { new, members, .. } => members
-                .split_whitespace()
-                .count()
-                .saturating_add(usize::from(*new)),
+            Line::New(_, members) => members.split_whitespace().count().saturating_add(1),
+            Line::More(_, members) => members.split_whitespace().count(),
             _ => 1,
         }
     }
 }
 
-// A set's line; all its members are numbers.
-fn read_set<'t>(new: bool, number: &str, members: &'t str) -> Option<Line<'t>> {
-    if !members
+// The members of a set's line, if all are numbers.
+fn read_members(members: &str) -> Option<&str> {
+    let all = members
         .split_whitespace()
-        .all(|n| n.parse::<usize>().is_ok())
-    {
-        return None;
-    }
-    Some(Line::Set {
-        new,
-        number: number.parse().ok()?,
-        members,
-    })
+        .all(|n| n.parse::<usize>().is_ok());
+    if all { Some(members) } else { None }
 }
 
 pub(super) fn read_line<'t>(text: &'t str) -> Option<Line<'t>> {
     let mut f = text.splitn(3, ' ');
     let line = match (f.next()?, f.next()?, f.next()) {
-        ("s", k, members) => read_set(true, k, members.unwrap_or(""))?,
-        ("+", k, Some(members)) => read_set(false, k, members)?,
+        ("s", k, members) => Line::New(k.parse().ok()?, read_members(members.unwrap_or(""))?),
+        ("+", k, Some(members)) => Line::More(k.parse().ok()?, read_members(members)?),
         ("b", pile, None) => Line::Blocks(pile.parse().ok()?),
         ("i", pile, None) => Line::Indices(pile.parse().ok()?),
         ("m", s, None) => Line::Seek(s.parse().ok()?),

@@ -26,18 +26,15 @@ fn room(heap: Global) -> Result<Memory, AllocError>
 // The set gains the members that the lines give the set of that number.
 fn fill(set: &mut BitSet, lines: &[Line], k: usize) {
     for line in lines {
-        if let Line::Set {
-            number,
-            members,
-            ..
-        } = *line
-            && number == k
-        {
-            for n in members.split_whitespace() {
-                if let Ok(n) = n.parse() {
-                    let _ = set.insert(n);
+        match *line {
+            Line::New(number, members) | Line::More(number, members) if number == k => {
+                for n in members.split_whitespace() {
+                    if let Ok(n) = n.parse() {
+                        let _ = set.insert(n);
+                    }
                 }
             }
+            _ => {}
         }
     }
 }
@@ -62,16 +59,14 @@ fn family(heap: Global, lines: &[Line]) -> anyhow::Result<usize> {
 // All walks over the four sets, which come one by one: a call with an array of references to sets gets no proof.
 fn walks(a: &BitSet, b: &BitSet, c: &BitSet, d: &BitSet, lines: &[Line]) -> usize {
     let sets = [View::new(a), View::new(b), View::new(c), View::new(d)];
-    let mut differ = 0usize;
-    for walk in lines.chunk_by(|_, next| next.is_asked()) {
-        let wrong = match walk {
+    lines
+        .chunk_by(|_, next| next.is_asked())
+        .map(|walk| match walk {
             [Line::Blocks(pile), asked @ ..] => visit_pile(Blocks(asked), *pile, sets),
             [Line::Indices(pile), asked @ ..] => visit_pile(Indices(asked), *pile, sets),
             _ => 0,
-        };
-        differ = differ.saturating_add(wrong);
-    }
-    differ
+        })
+        .fold(0usize, |differ, wrong| differ.saturating_add(wrong))
 }
 
 // Replays family by family, where each begins with its set 0.

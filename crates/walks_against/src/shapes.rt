@@ -56,7 +56,8 @@ impl Visit for Indices<'_, '_> {
     }
 }
 
-/// A visit to the pile of that number over four sets.
+/// A visit to the pile of that number over four sets. The stored lines name piles by number, and an enum would be a
+/// second list of them; each pile has a type of its own, so no table of values holds them.
 pub(super) fn visit_pile<V: Visit>(v: V, pile: usize, sets: [View; 4]) -> V::Answer
     ensures { (M : ℕ → Bool) × V.Visit.sees v M result }
 {

@@ -1,17 +1,17 @@
 -- Members kept as words, whose groups and blocks are quickly counted.
-use Rattle.std.proofs.Common.{◌≡◌, ℕ, ◌-◌, ◌*◌, ◌/◌, ◌%◌, ◌^◌, ◌<◌, Bool, false, cond, not, ◌&&◌, ◌||◌, eqb, leb, sym, refl, ap, ◌∙◌, ⊎_elim, arith}
+use Rattle.std.proofs.Common.{◌≡◌, ℕ, ◌-◌, ◌*◌, ◌/◌, ◌%◌, ◌^◌, ◌<◌, Bool, false, cond, not, ◌&&◌, ◌||◌, eqb, leb, sym, refl, ap, arith}
 use mathlib.Core.Path.{fun_ext}
+use Rattle.std.proofs.lemmas.Bool.Decides.{nat_tests}
 use lib.Bits.{bit_and, bit_or, or_lt, and_le_l}
 use Rattle.bits.specs.Bit.{bit}
 use Rattle.bits.specs.Sums.{same}
 use Rattle.bits.proofs.Marks.{mark}
 use Rattle.bits.proofs.Laws.{bit_not}
-use Rattle.roll.specs.Members.{blocks, members}
-use Rattle.roll.specs.Roll.{Done, Refused, fitting}
+use Rattle.roll.specs.Members.{members}
+use Rattle.roll.specs.Roll.{Answer, Done, Refused, fitting}
 use Rattle.roll.proofs.Counts.{groups_words, blocks_words}
 use Rattle.merge.specs.Merged.{groups_in, blocks_in}
-use Rattle.tree.proofs.Facts.{cases_pair}
-use Rattle.bitset.proofs.Over.{over, over_here, over_there}
+use Rattle.bitset.proofs.Over.{over}
 use Rattle.bitset.proofs.Digits.{joined, cut_to, index_in, index_not, index_out, no_bit}
 
 -- the members of words
@@ -30,11 +30,7 @@ abbrev pub without_index : (ℕ → ℕ → ℕ) → ℕ → ℕ → ℕ → ℕ
 without_index w n = over w (n / 4096) (n % 4096 / 64) (bit_and (w (n / 4096) (n % 4096 / 64)) (2 ^ 64 - 1 - bit_of n))
 
 over_fits : (w : ℕ → ℕ → ℕ) (i j v : ℕ) → ((a b : ℕ) → w a b < 2 ^ 64) → v < 2 ^ 64 → (a b : ℕ) → over w i j v a b < 2 ^ 64
-over_fits w i j v f fv a b =
-    ⊎_elim
-    (λ (e : (a ≡ i) × (b ≡ j)). omega (arith, over_here w i j v a b e.0 e.1))
-    (λ (ne : (a ≡ i) × (b ≡ j) → ⊥). omega (arith, over_there w i j v a b ne, f a b))
-    (cases_pair a b i j)
+over_fits w i j v f fv a b = grind (arith, nat_tests, f a b)
 
 pub empty : Held (λ _. false) (λ _ _. 0)
 empty = record { has = λ m. sym (no_bit m 0 refl); fits = λ i j. omega arith }
@@ -44,7 +40,7 @@ put M w n l h =
     let v = bit_of n in
     let bits : (a : ℕ) → bit v a ≡ same a (n % 64) = λ a. mark (n % 64) a (omega arith) in
     record {
-      has = λ m. ap (λ b. b || eqb m n) (h.has m) ∙ joined w (n / 4096) (n % 4096 / 64) v (λ k. eqb k n) (omega arith) (index_in n v bits) (index_out n) m;
+      has = λ m. rw (h.has m) (joined w (n / 4096) (n % 4096 / 64) v (λ k. eqb k n) (omega arith) (index_in n v bits) (index_out n) m);
       fits = over_fits w _ _ _ h.fits (or_lt 64 _ v (h.fits _ _) (omega arith));
     }
 
@@ -53,13 +49,11 @@ gone M w n l h =
     let v = 2 ^ 64 - 1 - bit_of n in
     let bits : (a : ℕ) → a < 64 → bit v a ≡ 1 - same a (n % 64) = λ a la. omega (arith, bit_not 64 (bit_of n) a (omega arith) la, mark (n % 64) a (omega arith)) in
     record {
-      has = λ m. ap (λ b. b && not (eqb m n)) (h.has m) ∙ cut_to w (n / 4096) (n % 4096 / 64) v (λ k. not (eqb k n)) (omega arith) (index_not n v bits) (λ k ne. ap not (index_out n k ne)) m;
+      has = λ m. rw (h.has m) (cut_to w (n / 4096) (n % 4096 / 64) v (λ k. not (eqb k n)) (omega arith) (index_not n v bits) (λ k ne. ap not (index_out n k ne)) m);
       fits = over_fits w _ _ _ h.fits (omega (arith, and_le_l (w (n / 4096) (n % 4096 / 64)) v, h.fits (n / 4096) (n % 4096 / 64)));
     }
 
 -- whether members fit, by their words
-pub counted : (M : ℕ → Bool) (w : ℕ → ℕ → ℕ) (p q : ℕ) → Held M w → fitting p q M ≡ cond (leb (groups_in w) p) (cond (leb (blocks_in w) q) Done (Refused 4)) (Refused 3)
-counted M w p q h =
-    ap (fitting p q) (fun_ext h.has)
-    ∙ ap (λ n. cond (leb n p) (cond (leb (blocks (members w)) q) Done (Refused 4)) (Refused 3)) (groups_words w h.fits)
-    ∙ ap (λ n. cond (leb (groups_in w) p) (cond (leb n q) Done (Refused 4)) (Refused 3)) (blocks_words w h.fits)
+pub counted : (M : ℕ → Bool) (w : ℕ → ℕ → ℕ) (p q : ℕ) (a : Answer) → Held M w →
+    cond (leb (groups_in w) p) (cond (leb (blocks_in w) q) Done (Refused 4)) (Refused 3) ≡ a → fitting p q M ≡ a
+counted M w p q a h e = rw (fun_ext h.has, groups_words w h.fits, blocks_words w h.fits) e

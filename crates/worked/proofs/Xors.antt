@@ -1,5 +1,5 @@
 -- Xor of {5, 70} with itself, computed from the definitions.
-use Rattle.std.proofs.Common.{◌≡◌, ℕ, ◌*◌, ◌^◌, Bool, [], ◌∷◌, ◌++◌, map, refl, ap, ◌∙◌}
+use Rattle.std.proofs.Common.{◌≡◌, ℕ, ◌*◌, ◌^◌, Bool, [], ◌∷◌, ◌++◌, map, refl, ◌∙◌}
 use lib.Bits.{bit_or, bit_xor, xor_self}
 use Rattle.bits.specs.Sums.{total}
 use Rattle.bits.specs.Bit.{bit}
@@ -17,35 +17,23 @@ pair = among (5 ∷ 70 ∷ [])
 abbrev words : ℕ → ℕ → ℕ
 words a b = bit_xor (data_of pair a b) (data_of pair a b)
 
-top : bit_or (top_of pair) (top_of pair) ≡ 1
-unfolding top_of total any
-top = refl
-
-middle : bit_or (middle_of pair 0) (middle_of pair 0) ≡ 3
-unfolding middle_of total any
-middle = refl
-
 -- a walk over one group
 first_group : places 1 ≡ 0 ∷ []
 unfolding places scan bit
 first_group = refl
 
-one_row : (m : ℕ → ℕ) → rows m (0 ∷ []) ≡ row 0 (places (m 0)) ++ []
-unfolding rows
-one_row m = refl
-
 one_group : (m : ℕ → ℕ) (w : ℕ → ℕ → ℕ) (t u : ℕ) → t ≡ 1 → m 0 ≡ u → announced t m w ≡ block_list w (row 0 (places u) ++ [])
-unfolding whole
-one_group m w t u e f =
-    ap (block_list w) (ap (λ x. rows m (places x)) e ∙ ap (rows m) first_group ∙ one_row m ∙ ap (λ x. row 0 (places x) ++ []) f)
+unfolding whole rows
+one_group m w t u e f = rw (e, first_group, f)
 
 two_blocks : block_list words (row 0 (places 3) ++ []) ≡ map empty_at (0 ∷ 64 ∷ [])
 unfolding block_list row places scan bit word_of total
 two_blocks = refl
 
 pub emptied : Emptied (among (5 ∷ 70 ∷ [])) 0 3 (0 ∷ 64 ∷ [])
+unfolding top_of middle_of total any
 emptied = record {
-  middle = middle;
-  blocks = one_group (λ a. bit_or (middle_of pair a) (middle_of pair a)) words _ 3 top middle ∙ two_blocks;
+  middle = refl;
+  blocks = one_group (λ a. bit_or (middle_of pair a) (middle_of pair a)) words _ 3 refl refl ∙ two_blocks;
   nobody = λ n. nowhere bit_xor n (pair n) (pair n) (xor_self (one (pair n) * 2 ^ offset n));
 }

@@ -1,8 +1,7 @@
-use Rattle.std.proofs.Common.{◌≡◌, ◌-◌, ◌^◌, ◌<◌, ap, ◌∙◌, rules}
+use Rattle.std.proofs.Common.{◌≡◌, ◌-◌, ◌^◌, ◌<◌, rules}
 use lib.Bits.{bit_and}
 use lib.Count.{count_trailing_zeros}
 use Rattle.bits.specs.Bit.{Lost}
-use Rattle.bits.specs.Places.{places}
 use Rattle.bits.proofs.Low.{low_one, low_lt, low_lowest, low_gone, low_rest}
 use Rattle.bits.proofs.Listed.{places_lost, places_zero}
 use Rattle.bits.proofs.bit_queue.pop_front.Goals as goal
@@ -10,8 +9,7 @@ use Rattle.bits.proofs.bit_queue.pop_front.Goals as goal
 pub returns-then-word-eq0 : goal.returns-then-word-eq0
 returns-then-word-eq0 c =
     let e : c.args.word.now ≡ 0 = search rules in
-    let p = ap places e ∙ places_zero in
-    record { bits = (e, e); list = (p, p) }
+    record { bits = (e, e); list = rw e (places_zero, places_zero) }
 
 pub returns : goal.returns
 returns c =

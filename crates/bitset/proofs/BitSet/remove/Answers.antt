@@ -1,40 +1,28 @@
-use Rattle.std.proofs.Common.{◌≡◌, true, cond, not, eqb, ltb, sym, ap, ◌∙◌, arith}
-use Rattle.std.proofs.lemmas.Bool.{lt-ltb, ltb-true, false≢true}
-use Rattle.bits.specs.Bit.{bit}
-use Rattle.roll.specs.Roll.{Refused, Remove, Told, answer, refuses}
-use Rattle.roll.specs.Members.{members}
+use Rattle.std.proofs.Common.{◌<◌, not, sym, ap, ◌∙◌, arith}
+use Rattle.std.proofs.lemmas.Bool.{lt-ltb}
+use Rattle.std.proofs.lemmas.Bool.Decides.{nat_tests}
+use Rattle.bits.proofs.Laws.{bit_ones}
 use Rattle.tree.specs.Trees.{word}
-use Rattle.bitset.specs.Sets.{tree_roll}
-use Rattle.bitset.proofs.Digits.{cut_to, index_not, index_out, unmarked, member_at}
-use Rattle.bitset.proofs.Calls.{lost}
+use Rattle.bitset.proofs.Digits.{cut_to, index_not, index_out, index_was}
+use Rattle.bitset.proofs.Calls.{put_roll}
 use Rattle.bitset.proofs.Kept.{sound_of}
 use Rattle.bitset.proofs.BitSet.remove.Goals as goal
 
-pub returns : goal.returns
-returns c =
+pub returns-clause-answer : goal.returns-clause-answer
+returns-clause-answer c =
+    let at = c.in_ok-i.ensures in
+    let below : c.args.index < 262144 = at.0 in
+    let was = index_was (word c.args.self.now.tree) c.args.index _ _ _ below at.1 at.2 at.3 in
+    grind (arith, nat_tests)
+
+pub returns-clause-roll : goal.returns-clause-roll
+returns-clause-roll c =
     let s = c.args.self.now.tree in
     let n = c.args.index in
     let at = c.in_ok-i.ensures in
-    let i = c.in_ok-i.i in
-    let j = c.in_ok-i.j in
-    let k = c.in_ok-i.k in
-    let w = c.clear_bit.result in
-    let a = c.and_block-old.ensures in
-    let un = unmarked w n _ c.clear_bit.ensures at.3 in
-    let t : ltb n 262144 ≡ true = lt-ltb n 262144 c.in_ok-i.ensures.0 in
-    let below = ltb-true n 262144 t in
-    let says : answer (tree_roll s) (Remove n) ≡ Told (members (word s) n) = ap (λ b. cond b (Told (members (word s) n)) (Refused 1)) t in
-    let was : c.get_bit.result ≡ members (word s) n =
-    c.get_bit.ensures ∙ ap (λ v. eqb (bit v k) 1) a.old ∙ ap (λ x. eqb (bit (word s i j) x) 1) at.3
-    ∙ sym (member_at (word s) i j (omega (arith, at.1)) n (sym at.1, sym at.2)) in
-    record {
-      answer = ap Told was ∙ sym says;
-      roll = lost s c.and_block-old.new.self (Remove n) i j w a.put
-          (cut_to (word s) i j w _ (omega (arith, at.1)) (λ m p. index_not n w un m (p.0 ∙ at.1, p.1 ∙ at.2)) (λ m ne. ap not (index_out n m (λ p. ne (p.0 ∙ sym at.1, p.1 ∙ sym at.2)))))
-          (ap refuses says);
-      kept = λ e. absurd (false≢true e);
-      lent = a.lent;
-    }
+    let below : n < 262144 = at.0 in
+    rw (lt-ltb n 262144 below) (put_roll s _ _ _ _ _ c.and_block-old.ensures.put
+    (cut_to (word s) _ _ _ _ (omega (arith, at.1)) (λ m p. index_not n c.clear_bit.result (λ a l. omega (arith, c.clear_bit.ensures a, bit_ones 64 a l, at.3)) m (p.0 ∙ at.1, p.1 ∙ at.2)) (λ m ne. ap not (index_out n m (λ p. ne (p.0 ∙ sym at.1, p.1 ∙ sym at.2))))))
 
 pub and_block-old-requires-clause-sound : goal.and_block-old-requires-clause-sound
 and_block-old-requires-clause-sound c = sound_of c.args.self.now

@@ -14,5 +14,4 @@ unite-requires g c = sound_of c.args.self.now
 
 pub invariant_of-self : goal.invariant_of-self
 invariant_of-self g c =
-    let u = c.unite.ensures in
-    record { sound = still_sound c.args.self.now.tree c.unite.new.tree (outcome c.unite.result) (sound_of c.args.self.now) (λ e. (u.words e).sound) u.kept }
+    record { sound = still_sound c.args.self.now.tree c.unite.new.tree (outcome c.unite.result) (sound_of c.args.self.now) (λ e. (c.unite.ensures.words e).sound) c.unite.ensures.kept }

@@ -1,61 +1,35 @@
-use Rattle.std.proofs.Common.{◌≡◌, ◌<◌, sym, ap, ◌∙◌, subst, arith, rules}
+use Rattle.std.proofs.Common.{refl, arith, rules}
 use lib.Bits.{bit_or, or_zero_r}
-use Rattle.bits.specs.Bit.{bit}
-use Rattle.tree.specs.Steps.{Put}
 use Rattle.tree.specs.Trees.{word}
-use Rattle.merge.proofs.Queue.{place_gone, place_there, places_end}
-use Rattle.merge.proofs.Merging.{both, one_word, no_word, repicked, start_places, unannounced}
-use Rattle.merge.proofs.Union.{has_room, still_groups, still_blocks}
+use Rattle.merge.proofs.Merging.{start_places, next_place, all_places}
+use Rattle.merge.proofs.Union.{has_room, still_fits}
 use Rattle.merge.proofs.groups.unite_group.Goals as goal
 
 pub loop-j-init : goal.loop-j-init
 loop-j-init g c =
-    let s = c.args.tree.now in
-    let i = c.args.i in
     let x = g.X.LevelMasks.word c.args.x.now in
-    let e : c.into_iter-j-iterator.result.word ≡ c.init_level1_block_data-mask.result.0 = search rules in
-    start_places bit_or x i _ s c.requires.sound
-    (λ b z.
-    let n : x i b ≡ 0 = unannounced (x i b) _ (c.rules.ensures.covers_middle i b) (ap (λ m. bit m b) (sym (e ∙ c.init_level1_block_data-mask.ensures.mask)) ∙ z) in
-    ap (bit_or (word s i b)) n ∙ or_zero_r (word s i b))
+    start_places bit_or x x c.args.tree.now c.requires.sound (λ a b z. cc (z, or_zero_r (word c.args.tree.now a b)))
+    c.args.i _ (g.X.LevelMasks.middle c.args.x.now) (search rules) c.rules.ensures.covers_middle
 
-pub join_block-requires : goal.join_block-requires
-join_block-requires g c =
-    let i = c.args.i in
-    let j = c.in-Some.j in
-    let x = g.X.LevelMasks.word c.args.x.now in
-    let m = c.loop-j.invariant in
-    let lj = c.in-Some.ensures.steps.0.within in
-    let w : 0 < c.data_mask_from_block_data-w.result = omega arith in
-    let e : c.data_mask_from_block_data-w.result ≡ x i j = c.data_mask_from_block_data-w.ensures i c.init_level1_block_data-mask.ensures.made in
-    record {
-      sound = m.sound;
-      place = (c.requires.place, lj);
-      some = w;
-      room = has_room x c.loop-j.tree m.sound i j c.requires.place lj (omega (arith, e)) (still_groups x _ _ _ m c.requires.groups) (still_blocks x _ _ _ m c.requires.blocks);
-    }
+pub join_block-requires-clause-room : goal.join_block-requires-clause-room
+join_block-requires-clause-room g c =
+    let e = c.data_mask_from_block_data-w.ensures c.args.i c.init_level1_block_data-mask.ensures.made in
+    has_room (g.X.LevelMasks.word c.args.x.now) c.loop-j.tree c.loop-j.invariant.sound c.args.i c.in-Some.j c.requires.place c.in-Some.ensures.steps.0.within (omega (arith, e))
+    (still_fits c.loop-j.invariant (record { groups = c.requires.groups; blocks = c.requires.blocks }))
 
 pub loop-j-preserved-then-w-ne0 : goal.loop-j-preserved-then-w-ne0
 loop-j-preserved-then-w-ne0 g c =
-    let i = c.args.i in
-    let j = c.in-Some.j in
-    let x = g.X.LevelMasks.word c.args.x.now in
-    let s = c.loop-j.tree in
-    let h = c.in-Some.ensures.steps.0 in
-    let e : c.data_mask_from_block_data-w.result ≡ x i j = c.data_mask_from_block_data-w.ensures i c.init_level1_block_data-mask.ensures.made in
-    let p = subst (λ v. Put s c.join_block.new.self i j (bit_or (word s i j) v)) e c.join_block.ensures.put in
-    both bit_or x _ _ _ _ _ _ c.loop-j.invariant (one_word bit_or x i j s _ p c.join_block.ensures.lent) (place_there _ _ _ h i) (place_gone _ _ _ h i)
+    let e = c.data_mask_from_block_data-w.ensures c.args.i c.init_level1_block_data-mask.ensures.made in
+    next_place bit_or (g.X.LevelMasks.word c.args.x.now) c.in-Some.ensures.steps.0 c.loop-j.invariant (rw e at c.join_block.ensures.put) c.join_block.ensures.lent
 
 pub loop-j-preserved : goal.loop-j-preserved
 loop-j-preserved g c =
     let i = c.args.i in
     let j = c.in-Some.j in
-    let x = g.X.LevelMasks.word c.args.x.now in
     let s = c.loop-j.tree in
-    let h = c.in-Some.ensures.steps.0 in
-    let e : c.data_mask_from_block_data-w.result ≡ x i j = c.data_mask_from_block_data-w.ensures i c.init_level1_block_data-mask.ensures.made in
-    let n : x i j ≡ 0 = sym e ∙ c.if-w-ne0.false in
-    both bit_or x _ _ _ _ _ _ c.loop-j.invariant (no_word bit_or x i j s c.loop-j.invariant.sound (ap (bit_or (word s i j)) n ∙ or_zero_r (word s i j))) (place_there _ _ _ h i) (place_gone _ _ _ h i)
+    let e = c.data_mask_from_block_data-w.ensures i c.init_level1_block_data-mask.ensures.made in
+    next_place bit_or (g.X.LevelMasks.word c.args.x.now) c.in-Some.ensures.steps.0 c.loop-j.invariant
+    (record { sound = c.loop-j.invariant.sound; here = cc (or_zero_r (word s i j), e, c.if-w-ne0.false); others = λ _ _ _. refl; room1 = refl; room2 = refl }) (record { upper = refl; lower = refl })
 
 pub returns : goal.returns
-returns g c = repicked bit_or (g.X.LevelMasks.word c.args.x.now) _ _ _ _ (places_end c.args.i _ c.in-None.ensures.steps.0.0) c.loop-j.invariant
+returns g c = all_places bit_or (g.X.LevelMasks.word c.args.x.now) c.args.i c.in-None.ensures.steps.0.0 c.loop-j.invariant

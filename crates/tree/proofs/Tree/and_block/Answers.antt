@@ -1,9 +1,7 @@
-use Rattle.std.proofs.Common.{◌≡◌, ◌^◌, ◌<◌, get_or, sym, refl, ap, ◌∙◌, arith}
-use lib.Bits.{bit_and, and_le_l}
-use Rattle.tree.specs.Trees.{slot2, word}
+use Rattle.std.proofs.Common.{refl, arith, rules}
+use lib.Bits.{bit_and}
 use Rattle.tree.proofs.Facts.{within2}
-use Rattle.tree.proofs.Fill.{store}
-use Rattle.tree.proofs.Whole.{rewritten}
+use Rattle.tree.proofs.Whole.{changed}
 use Rattle.tree.proofs.Tree.and_block.Goals as goal
 
 pub at-old-requires : goal.at-old-requires
@@ -12,20 +10,5 @@ at-old-requires c = omega (arith, c.slot-c.ensures, within2 c.args.self.now c.re
 pub put-requires : goal.put-requires
 put-requires c = omega (arith, c.slot-c.ensures, within2 c.args.self.now c.requires.sound.0 c.args.i c.args.j)
 
-pub returns-then-v-ne0 : goal.returns-then-v-ne0
-returns-then-v-ne0 c =
-    let s = c.args.self.now in
-    let t = c.requires.sound in
-    let i = c.args.i in
-    let j = c.args.j in
-    let x = c.at-old.result.now in
-    let v = bit_and x c.args.w in
-    let p : 0 < slot2 s i j = omega (arith, c.slot-c.ensures) in
-    let e : x ≡ word s i j = c.at-old.ensures ∙ ap (λ k. get_or s.«data».blocks.now k 0) c.slot-c.ensures in
-    let fv : v < 2 ^ 64 = omega (arith, and_le_l x c.args.w, e, t.0.fits2 i j) in
-    let st = store s (record { level0 = s.level0; level1 = s.level1; «data» = c.put.new.self }) i j v fv t.0 p refl refl refl (rw c.slot-c.ensures at c.put.ensures.wrote) in
-    record {
-      old = e;
-      put = rw (sym e) (rewritten s _ i j v t c.requires.place.1 (omega arith) p st);
-      lent = record { upper = refl; lower = c.put.ensures.lent };
-    }
+pub returns-then-v-ne0-clause-put : goal.returns-then-v-ne0-clause-put
+returns-then-v-ne0-clause-put c = changed c.args.self.now _ (λ x. bit_and x c.args.w) c.args.i c.args.j c.slot-c.result c.at-old.result.now c.requires.sound c.requires.place.1 c.slot-c.ensures (omega arith) c.at-old.ensures (omega arith) (λ _. search rules) refl refl c.put.ensures.wrote
