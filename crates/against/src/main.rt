@@ -81,7 +81,7 @@ fn replay(heap: Global, p: u32, q: u32, lines: &[Line]) -> anyhow::Result<usize>
     Ok(differ)
 }
 
-// Replays run by run, where each begins with its pools.
+// Replays run by run, where each begins with its pools. A loop adds up: each run may fail, and is told.
 fn compare(rt: &HostRuntime, lines: &[Line]) -> anyhow::Result<usize> {
     let mut differ = 0usize;
     for run in lines.chunk_by(|_, next| !matches!(next, Line::New(_, _))) {

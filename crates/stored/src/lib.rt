@@ -6,7 +6,7 @@ ghost use Rattle.std.specs.Prelude.{◌≡◌, ℕ, Bool, true, false, Some, Ok,
 ghost use Rattle.std.specs.Fn.{FnReturnsAt};
 ghost use Rattle.std.specs.List.{AllZip};
 ghost use Rattle.std.specs.Str.Lines.{lines};
-ghost use Rattle.std.specs.Str.Parse.{digits_value, without_leading_plus};
+ghost use Rattle.std.specs.Str.Parse.{IsNumeral, digits_value, without_leading_plus};
 ghost use Rattle.roll.specs.Members.{members};
 ghost use Rattle.roll.specs.Refusals.{number};
 ghost use Rattle.roll.specs.declared.Refusal.{Refusal};
@@ -90,6 +90,7 @@ pub fn read_answer<C>(field: &str) -> Option<Answer<C>>
     ensures no { field.now ≡ codes "n" → result ≡ Some (Said false) }
     ensures changed { field.now ≡ codes "0" → result ≡ Some (Change (Ok tt)) }
     ensures refused { (r : Refusal) → result ≡ Some (Change (Err r)) → number r ≡ digits_value 10 (without_leading_plus field.now) }
+    ensures told { (r : Refusal) → IsNumeral 10 (without_leading_plus field.now) → number r ≡ digits_value 10 (without_leading_plus field.now) → result ≡ Some (Change (Err r)) }
 {
     let answer = match field {
         "y" => Answer::Said(true),

@@ -23,7 +23,7 @@ pub struct Counts {
 
 pub type Answer = stored::Answer<Counts>;
 
-/// A line is of one of four sets, which it names by a number, 0 to 3.
+/// A line is of one of four sets, which it names by a number, 0 to 3: an enum would be a second list of them.
 #[derive(Clone, Copy)]
 pub enum Line {
     /// A new, empty set, with its slots for groups and for blocks.

@@ -149,7 +149,7 @@ fn tell(rt: &HostRuntime, lines: &[Line], differ: usize) -> anyhow::Result<()> {
     Ok(())
 }
 
-// Replays run by run.
+// Replays run by run. A loop adds up: each run may fail, and is told.
 fn compare(rt: &HostRuntime, lines: &[Line]) -> anyhow::Result<usize> {
     let mut differ = 0usize;
     for part in lines.chunk_by(|_, next| !next.begins_run()) {

@@ -69,7 +69,7 @@ fn walks(a: &BitSet, b: &BitSet, c: &BitSet, d: &BitSet, lines: &[Line]) -> usiz
         .fold(0usize, |differ, wrong| differ.saturating_add(wrong))
 }
 
-// Replays family by family, where each begins with its set 0.
+// Replays family by family, where each begins with its set 0. A loop adds up: each may fail, and is told.
 fn compare(rt: &HostRuntime, lines: &[Line]) -> anyhow::Result<usize> {
     let mut differ = 0usize;
     for part in lines.chunk_by(|_, next| !next.begins_family()) {
