@@ -57,7 +57,7 @@ impl<'a> BitSet<'a> {
         BitSet { tree }
     }
 
-    /// An empty set over two lent slices, whatever they hold. Two slices and no struct of both: each clause is about one.
+    /// An empty set over two lent slices, whatever they hold. Two slices and no struct of both: it would be taken apart at once.
     pub fn over(level1: &'a mut [Block], data: &'a mut [u64]) -> BitSet<'a>
         requires level1 { 0 < length level1.old }
         requires words { 0 < length «data».old }

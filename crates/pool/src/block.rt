@@ -45,7 +45,8 @@ impl IBlock for u64 {
 }
 
 /// A level-1 block: which of its 64 places have a data block, and the slots of those. Slot 0 stands for none, and no
-/// `Option`: a slot number has the two bytes of the lent memory, and reading slot 0, which is empty, needs no test.
+/// `Option`: a slot number has the two bytes of the lent memory, and reading slot 0, which is empty, needs no test. An array, since a block has 64 places
+/// and no heap.
 #[derive(Clone, Copy)]
 pub struct Block {
     pub mask: u64,

@@ -15,7 +15,7 @@ pub const NO_BLOCK: u64 = 0xffff_ffff_ffff_ffff;
 
 /// A pool. Slot 0 is never taken and always empty; the other slots are held, stand on the chain of
 /// free blocks, or have never been taken. The lent slice is all its memory, so free blocks are an arena of indices.
-// `Good` is asked and kept by three functions and no ghost field: `put` writes any block into any slot.
+// `Good` is asked or kept by three functions and no ghost field: `put` writes any block into any slot.
 #[derive(Drop)]
 pub struct Level<'a, B> {
     blocks: &'a mut [B],

@@ -15,7 +15,7 @@ mod reads;
 mod removes;
 
 /// Which of the 64 groups are there, and the slots of their level-1 blocks; slot 0 stands for none, as in those blocks.
-/// No generic type with `Block`: this one is in no pool, and nothing is done to both.
+/// No generic type with `Block`: this one is written in its tree, the other through its pool, and no function takes both.
 #[derive(Clone, Copy)]
 pub struct Level0Block {
     mask: u64,

@@ -22,7 +22,7 @@ impl From<usize> for Item {
 
 #[derive(Clone, Copy)]
 pub enum Line<'t> {
-    /// A new set of that number and its members.
+    /// A new set of that number, 0 to 3 (an enum would be a second list of them), and its members.
     New(usize, &'t str),
     /// Further members of the set of that number.
     More(usize, &'t str),
