@@ -1,4 +1,7 @@
 //! The lines of a shift, with their numbers.
+ghost use Rattle.std.specs.Prelude.{◌≡◌, IfOk};
+ghost use Rattle.shift.specs.Lines.{Says};
+
 use crate::fault::{BadLine, Fault};
 use shift::{Step, read_step};
 use std::fmt;
@@ -12,12 +15,17 @@ pub struct Line<'a> {
 
 impl<'a> Line<'a> {
     /// The step that it says.
-    pub fn step(&self) -> Result<Step, BadLine> {
+    pub(super) fn step(&self) -> Result<Step, BadLine>
+        ensures { IfOk result (λ step. Says self.now.text.now step) }
+    {
         read_step(self.text.as_bytes()).map_err(|e| self.bad(Fault::Step(e)))
     }
 
     /// The error of this line.
-    pub fn bad(&self, fault: Fault) -> BadLine {
+    pub(super) fn bad(&self, fault: Fault) -> BadLine
+        ensures line { result.line ≡ self.now.number }
+        ensures fault { result.fault ≡ fault }
+    {
         BadLine {
             line: self.number,
             fault,

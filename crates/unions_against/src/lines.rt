@@ -41,7 +41,7 @@ pub enum Line {
 
 impl Line {
     /// Whether a run begins here: with a new set 0.
-    pub fn begins_run(&self) -> bool {
+    pub(super) fn begins_run(&self) -> bool {
         matches!(self, Line::New { set: 0, .. })
     }
 }

@@ -36,17 +36,17 @@ pub enum Line<'t> {
 
 impl Line<'_> {
     /// Whether a family of sets begins here.
-    pub fn begins_family(&self) -> bool {
+    pub(super) fn begins_family(&self) -> bool {
         matches!(self, Line::New(0, _))
     }
 
     /// Whether the line is asked of the walk before it.
-    pub fn is_asked(&self) -> bool {
+    pub(super) fn is_asked(&self) -> bool {
         matches!(self, Line::Seek(_) | Line::Next(_))
     }
 
     /// How many entries it makes: a new set, each member, and each other line are one.
-    pub fn entries(&self) -> usize {
+    pub(super) fn entries(&self) -> usize {
         match self {
             Line::New(_, members) => members.split_whitespace().count().saturating_add(1),
             Line::More(_, members) => members.split_whitespace().count(),
