@@ -1,6 +1,8 @@
 //! Replays stored calls and answers of the Rust crate and counts the answers that differ.
 #![tactic(auto)]
 
+ghost use Rattle.std.specs.Prelude.{◌≤◌};
+
 use anyhow::bail;
 use bitset::BitSet;
 use memory::Memory;
@@ -23,31 +25,23 @@ type Answer = stored::Answer<(usize, usize)>;
 #[derive(Clone, Copy)]
 enum Line {
     // A new set, over pools with so many slots for groups and for blocks.
-    New(u32, u32),
+    New(u64, u64),
     Asked(Call, Answer),
 }
 
+// What a line says; fields to spare are passed over.
 fn read_line(text: &str) -> Option<Line> {
     let mut f = text.split(' ');
     let line = match (f.next()?, f.next(), f.next(), f.next()) {
-        ("s", Some(p), Some(q), None) => Line::New(p.parse().ok()?, q.parse().ok()?),
-        ("i", Some(n), Some(r), None) => Line::Asked(
-            Call::Insert(n.parse().ok()?),
-            read_answer(r)?,
-        ),
+        ("s", Some(p), Some(q), _) => Line::New(p.parse().ok()?, q.parse().ok()?),
+        ("i", Some(n), Some(r), _) => Line::Asked(Call::Insert(n.parse().ok()?), read_answer(r)?),
         ("b", Some(start), Some(word), Some(r)) => Line::Asked(
             Call::InsertBlock(start.parse().ok()?, word.parse().ok()?),
             read_answer(r)?,
         ),
-        ("r", Some(n), Some(r), None) => Line::Asked(
-            Call::Remove(n.parse().ok()?),
-            read_answer(r)?,
-        ),
-        ("c", Some(n), Some(r), None) => Line::Asked(
-            Call::Contains(n.parse().ok()?),
-            read_answer(r)?,
-        ),
-        ("u", Some(g), Some(b), None) => Line::Asked(
+        ("r", Some(n), Some(r), _) => Line::Asked(Call::Remove(n.parse().ok()?), read_answer(r)?),
+        ("c", Some(n), Some(r), _) => Line::Asked(Call::Contains(n.parse().ok()?), read_answer(r)?),
+        ("u", Some(g), Some(b), _) => Line::Asked(
             Call::Used,
             Answer::Counts((g.parse().ok()?, b.parse().ok()?)),
         ),
@@ -68,8 +62,10 @@ fn ask(set: &mut BitSet, call: Call) -> Answer {
 }
 
 // Asks the lines of a set over slices full of old data; how many answers differ.
-fn replay(heap: Global, p: u32, q: u32, lines: &[Line]) -> anyhow::Result<usize> {
-    let mut memory = Memory::new(heap, p, q, OLD_BLOCK, OLD_WORD)?;
+fn replay(heap: Global, p: u64, q: u64, lines: &[Line]) -> anyhow::Result<usize>
+    requires { (p ≤ 4096) × (q ≤ 4096) }
+{
+    let mut memory = Memory::new(heap, p as u32, q as u32, OLD_BLOCK, OLD_WORD)?;
     let mut set = memory.set();
     let differ = lines
         .iter()

@@ -2,7 +2,7 @@
 //! piles that a visitor goes to.
 #![tactic(auto)]
 
-ghost use Rattle.std.specs.Prelude.{◌≡◌, ℕ, Bool, true, false, Some, Ok, Err, IfOk, OnOk, MatchResult, codes};
+ghost use Rattle.std.specs.Prelude.{◌≡◌, ◌≢◌, ◌<◌, ◌≤◌, ◌^◌, ℕ, Bool, true, false, Some, None, Ok, Err, IfOk, OnOk, MatchResult, codes};
 ghost use Rattle.std.specs.Fn.{FnReturnsAt};
 ghost use Rattle.std.specs.List.{AllZip};
 ghost use Rattle.std.specs.Str.Lines.{lines};
@@ -10,12 +10,13 @@ ghost use Rattle.std.specs.Str.Parse.{IsNumeral, digits_value, without_leading_p
 ghost use Rattle.roll.specs.Members.{members};
 ghost use Rattle.roll.specs.Refusals.{number};
 ghost use Rattle.roll.specs.declared.Refusal.{Refusal};
-ghost use Rattle.stored.specs.declared.Answer.TheVariants.{Change, Said};
+ghost use Rattle.roll.specs.declared.UnknownNumber.{UnknownNumber};
+ghost use Rattle.stored.specs.declared.Answer.TheVariants.{Change, Said, Counts, Unknown};
 
 use anyhow::{Context, bail};
 use operands::bitset_interface::{LevelMasks, LevelMasksIterExt};
 use pool::block::Block;
-use roll::Refusal;
+use roll::{Refusal, UnknownNumber};
 use std::alloc::Global;
 
 /// What a block holds before it is lent.
@@ -57,12 +58,14 @@ pub trait Visit {
         ensures { sees self (members (T.LevelMasks.word pile)) result };
 }
 
-/// What a call answered: that it changed the set or was refused, yes or no, or counts.
+/// What a call answered: that it changed the set or was refused, yes or no, or counts; or, in a stored line alone, a number
+/// that no refusal has, which differs from each answer of a call.
 #[derive(Clone, Copy, PartialEq, Eq)]
 pub enum Answer<C> {
     Change(Result<(), Refusal>),
     Said(bool),
     Counts(C),
+    Unknown(UnknownNumber),
 }
 
 impl<C> From<Result<(), Refusal>> for Answer<C> {
@@ -84,19 +87,29 @@ impl<C> From<Result<bool, Refusal>> for Answer<C> {
     }
 }
 
-/// The answer of a field: y, n, 0 for a change, or a refusal's number.
+/// The answer of a field: y, n, 0 for a change, a refusal's number, or another number.
 pub fn read_answer<C>(field: &str) -> Option<Answer<C>>
     ensures yes { field.now ≡ codes "y" → result ≡ Some (Said true) }
     ensures no { field.now ≡ codes "n" → result ≡ Some (Said false) }
     ensures changed { field.now ≡ codes "0" → result ≡ Some (Change (Ok tt)) }
     ensures refused { (r : Refusal) → result ≡ Some (Change (Err r)) → number r ≡ digits_value 10 (without_leading_plus field.now) }
     ensures told { (r : Refusal) → IsNumeral 10 (without_leading_plus field.now) → number r ≡ digits_value 10 (without_leading_plus field.now) → result ≡ Some (Change (Err r)) }
+    ensures said_yes { result ≡ Some (Said true) → field.now ≡ codes "y" }
+    ensures said_no { result ≡ Some (Said false) → field.now ≡ codes "n" }
+    ensures made { (u : Unit {0}) → result ≡ Some (Change (Ok u)) → field.now ≡ codes "0" }
+    ensures uncounted { (c : C) → result ≢ Some (Counts c) }
+    ensures unread { result ≡ None → (field.now ≢ codes "y") × (field.now ≢ codes "n") × (IsNumeral 10 (without_leading_plus field.now) → 2 ^ 64 ≤ digits_value 10 (without_leading_plus field.now)) }
+    ensures unknown { (n : UnknownNumber) → result ≡ Some (Unknown n) → (n.0 ≡ digits_value 10 (without_leading_plus field.now)) × ((r : Refusal) → number r ≢ n.0) }
+    ensures other { (n : UnknownNumber) → IsNumeral 10 (without_leading_plus field.now) → n.0 ≡ digits_value 10 (without_leading_plus field.now) → n.0 < 2 ^ 64 → ((r : Refusal) → number r ≢ n.0) → field.now ≢ codes "0" → result ≡ Some (Unknown n) }
 {
     let answer = match field {
         "y" => Answer::Said(true),
         "n" => Answer::Said(false),
         "0" => Answer::Change(Ok(())),
-        other => Answer::Change(Err(Refusal::try_from(other.parse::<u64>().ok()?).ok()?)),
+        other => match Refusal::try_from(other.parse::<u64>().ok()?) {
+            Ok(refusal) => Answer::Change(Err(refusal)),
+            Err(unknown) => Answer::Unknown(unknown),
+        },
     };
     Some(answer)
 }
@@ -117,7 +130,7 @@ mod tests {
     use super::{Answer, OLD_BLOCK, OLD_WORD, Visit, read_answer, read_lines, tell_none_differs};
     use bitset::BitSet;
     use operands::bitset_interface::{LevelMasksIterExt, contains};
-    use roll::Refusal;
+    use roll::{Refusal, UnknownNumber};
     use view::View;
 
     fn double(text: &str) -> Option<u64> {
@@ -139,7 +152,9 @@ mod tests {
         assert!(rt; read_answer::<()>("n") == Some(Answer::Said(false)));
         assert!(rt; read_answer::<()>("0") == Some(Answer::Change(Ok(()))));
         assert!(rt; read_answer::<()>("4") == Some(Answer::Change(Err(Refusal::BlocksFull))));
-        assert!(rt; read_answer::<()>("6").is_none() && read_answer::<()>("").is_none());
+        assert!(rt; read_answer::<()>("6") == Some(Answer::Unknown(UnknownNumber(6))));
+        assert!(rt; read_answer::<()>("00") == Some(Answer::Unknown(UnknownNumber(0))));
+        assert!(rt; read_answer::<()>("x").is_none() && read_answer::<()>("").is_none());
     }
 
     #[test]

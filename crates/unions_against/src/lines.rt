@@ -71,27 +71,25 @@ fn read_call(op: &str, number: &str) -> Option<Call> {
     }
 }
 
+/// What a line says; fields to spare are passed over.
 pub(super) fn read_line(text: &str) -> Option<Line> {
     let mut f = text.split(' ');
     let (op, set) = (f.next()?, read_set(f.next()?)?);
     let (call, answer) = match (op, f.next()?, f.next(), f.next(), f.next()) {
-        ("s", groups, Some(blocks), None, None) => {
+        ("s", groups, Some(blocks), _, _) => {
             return Some(Line::New {
                 set,
                 groups: groups.parse().ok()?,
                 blocks: blocks.parse().ok()?,
             });
         }
-        ("n", pile, None, None, None) => (
-            Call::Intersect(pile.parse().ok()?),
-            Answer::Change(Ok(())),
-        ),
+        ("n", pile, _, _, _) => (Call::Intersect(pile.parse().ok()?), Answer::Change(Ok(()))),
         ("m", g, Some(b), Some(n), Some(sum)) => (Call::Members, read_counts(g, b, n, sum)?),
-        ("b", start, Some(word), Some(r), None) => (
+        ("b", start, Some(word), Some(r), _) => (
             Call::InsertBlock(start.parse().ok()?, word.parse().ok()?),
             read_answer(r)?,
         ),
-        (op, n, Some(r), None, None) => (read_call(op, n)?, read_answer(r)?),
+        (op, n, Some(r), _, _) => (read_call(op, n)?, read_answer(r)?),
         _ => return None,
     };
     Some(Line::Asked { set, call, answer })

@@ -12,7 +12,7 @@ use walks::block_iter::BlockIter;
 use walks::index_iter::IndexIter;
 
 // Asks the lines of a walk; how many answers differ.
-fn differing<I: Into<Item>, W: Walk<I> + Drop>(mut walk: W, lines: &[Line]) -> usize
+fn differing<I: Item, W: Walk<I> + Drop>(mut walk: W, lines: &[Line]) -> usize
     ensures { result ≤ length lines.now }
 {
     lines
@@ -22,8 +22,7 @@ fn differing<I: Into<Item>, W: Walk<I> + Drop>(mut walk: W, lines: &[Line]) -> u
                 walk.seek(s);
                 false
             }
-            Line::Next(item) => walk.step().map(I::into) != item,
-            _ => true,
+            _ => walk.step() != I::handed(line),
         })
         .count()
 }
