@@ -90,7 +90,7 @@ struct Pools {
 
 // The first step, which gives the pools' sizes, or what is amiss in the lines up to it.
 fn first_step(text: &str) -> Result<Pools, BadLine>
-    ensures { IfOk result (λ p. (p.groups ≤ MOST_SLOTS) × (p.blocks ≤ MOST_SLOTS)) }
+    ensures { IfOk result (λ p. (p.groups ≤ 4096) × (p.blocks ≤ 4096)) }
 {
     for (i, text) in text.lines().enumerate() {
         let line = Line {
