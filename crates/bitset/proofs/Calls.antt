@@ -20,7 +20,7 @@ pub same_roll : (h h' : ℕ → Bool) (p p' q q' : ℕ) → ((m : ℕ) → h m �
 same_roll h h' p p' q q' e x y = cc (fun_ext e)
 
 -- the words after a change are the old ones with one replaced
-put_words : (s s' : Tree) (i j v : ℕ) → Put s s' i j v → (m : ℕ) → members (word s') m ≡ members (over (word s) i j v) m
+pub put_words : (s s' : Tree) (i j v : ℕ) → Put s s' i j v → (m : ℕ) → members (word s') m ≡ members (over (word s) i j v) m
 put_words s s' i j v p m = grind (arith, nat_tests, p.here, p.others (m / 4096) (m % 4096 / 64))
 
 pub put_roll : (s s' : Tree) (i j v : ℕ) (X : ℕ → Bool) → Put s s' i j v → ((m : ℕ) → X m ≡ members (over (word s) i j v) m) → tree_roll s' ≡ rolled X (slots1 s) (slots2 s)

@@ -22,7 +22,7 @@ adds_blocks s x a = row_in (united (word s) x) a - row s a
 
 module _ (s : Tree) (t : Sound s) where
   -- a group has as many blocks as its mask has one bits
-  row_ones : (i here : ℕ) → here ≡ (node s i).mask → ones here ≡ row s i
+  pub row_ones : (i here : ℕ) → here ≡ (node s i).mask → ones here ≡ row s i
   row_ones i here e =
       ap ones e ∙ ones_total 64 (node s i).mask (t.0.fits1 i)
       ∙ total_same (bit (node s i).mask) (λ j. some (word s i j)) 64 (λ j l. t.0.middle i j l ∙ t.1.words_full i j)

@@ -18,22 +18,22 @@ module _ (f : ℕ → ℕ → ℕ) where
   group_turn w k v a u u' u'' y h e d = grind (arith, nat_tests, h.rest a, h.one, h.gone)
 
   -- a word that is not picked, or that f does not change
-  unmoved : (c : Bool) (u y : ℕ) → (c ≡ true → f u y ≡ u) → u ≡ cond c (f u y) u
-  unmoved c u y h = grind (arith, nat_tests)
+  kept_word : (c : Bool) (u y : ℕ) → (c ≡ true → f u y ≡ u) → u ≡ cond c (f u y) u
+  kept_word c u y h = grind (arith, nat_tests)
 
   module _ (x : ℕ → ℕ → ℕ) where
     -- no word is picked that f changes
-    none_moved : (pick : ℕ → ℕ → Bool) (s : Tree) → Sound s → ((a b : ℕ) → pick a b ≡ true → f (word s a b) (x a b) ≡ word s a b) → Merged f pick x s s
-    none_moved pick s t h =
-        record { sound = t; words = λ a b. unmoved (pick a b) (word s a b) (x a b) (h a b); room1 = refl; room2 = refl; lent = record { upper = refl; lower = refl } }
+    pub unmoved : (pick : ℕ → ℕ → Bool) (s : Tree) → Sound s → ((a b : ℕ) → pick a b ≡ true → f (word s a b) (x a b) ≡ word s a b) → Merged f pick x s s
+    unmoved pick s t h =
+        record { sound = t; words = λ a b. kept_word (pick a b) (word s a b) (x a b) (h a b); room1 = refl; room2 = refl; lent = record { upper = refl; lower = refl } }
 
     -- f changes no word where n is 0, and a mask announces where it is not: what a queue of the mask misses at the start
     module _ (n : ℕ → ℕ → ℕ) (s : Tree) (t : Sound s) (quiet : (a b : ℕ) → n a b ≡ 0 → f (word s a b) (x a b) ≡ word s a b) where
       pub start_places : (i left : ℕ) (mask : ℕ → ℕ) → left ≡ mask i → ((a b : ℕ) → 0 < n a b → bit (mask a) b ≡ 1) → Merged f (gone_places i left) x s s
-      start_places i left mask e h = none_moved _ s t (λ a b g. quiet a b (grind (arith, nat_tests, h a b)))
+      start_places i left mask e h = unmoved _ s t (λ a b g. quiet a b (grind (arith, nat_tests, h a b)))
 
       pub start_groups : (top mask : ℕ) → top ≡ mask → ((a b : ℕ) → 0 < n a b → bit mask a ≡ 1) → Merged f (gone_groups top) x s s
-      start_groups top mask e h = none_moved _ s t (λ a b g. quiet a b (grind (arith, nat_tests, h a b)))
+      start_groups top mask e h = unmoved _ s t (λ a b g. quiet a b (grind (arith, nat_tests, h a b)))
 
     -- the words of s'' follow from those of s', which are merged
     after : {p r : ℕ → ℕ → Bool} {s s' s'' : Tree} → Merged f p x s s' → Sound s'' → length s''.level1.blocks.now ≡ length s'.level1.blocks.now → length s''.«data».blocks.now ≡ length s'.«data».blocks.now → Lent s' s'' → ((a b : ℕ) → word s'' a b ≡ cond (r a b) (f (word s a b) (x a b)) (word s a b)) → Merged f r x s s''
@@ -47,7 +47,7 @@ module _ (f : ℕ → ℕ → ℕ) where
     next_group h m n = after m n.sound n.room1 n.room2 n.lent (λ a b. group_turn _ _ _ a _ _ _ _ h (m.words a b) (n.words a b))
 
     -- at the end all are gone
-    repicked : {p q : ℕ → ℕ → Bool} {s s' : Tree} → Merged f p x s s' → ((a b : ℕ) → p a b ≡ q a b) → Merged f q x s s'
+    pub repicked : {p q : ℕ → ℕ → Bool} {s s' : Tree} → Merged f p x s s' → ((a b : ℕ) → p a b ≡ q a b) → Merged f q x s s'
     repicked m e = after m m.sound refl refl (record { upper = refl; lower = refl }) (λ a b. cc (m.words a b, e a b))
 
     pub all_places : (i : ℕ) {w : ℕ} {s s' : Tree} → w ≡ 0 → Merged f (gone_places i w) x s s' → Merged f (in_group i) x s s'

@@ -12,7 +12,7 @@ pub tally_only : (i : ℕ) (held : ℕ → Bool) (n : ℕ) → held i ≡ false 
 tally_only i held zero f lt = absurd (omega arith)
 tally_only i held (suc n) f lt = grind (arith, nat_tests, λ (x : n ≡ i). tally_below held (only i held) n (λ k l. grind (arith, nat_tests)), tally_only i held n)
 
-linked_set : {B : Type 0} (kind : Kind B) (bs : List B) (i : ℕ) (v : B) (root : ℕ) (chain : List ℕ) → times i chain ≡ 0 → Linked kind bs root chain → Linked kind (set bs i v) root chain
+pub linked_set : {B : Type 0} (kind : Kind B) (bs : List B) (i : ℕ) (v : B) (root : ℕ) (chain : List ℕ) → times i chain ≡ 0 → Linked kind bs root chain → Linked kind (set bs i v) root chain
 linked_set kind bs i v root [] z h = h
 linked_set kind bs i v root (j ∷ js) z h =
     let ne : j ≢ i = λ e. grind (arith, nat_tests) in
@@ -86,12 +86,12 @@ take_none kind bs root count fresh held ([], s) e f full =
       tally_full = omega (arith, s.tallied, s.room);
     }
 
-tally_without : (i : ℕ) (held : ℕ → Bool) (n : ℕ) → held i ≡ true → i < n → tally (without i held) n + 1 ≡ tally held n
+pub tally_without : (i : ℕ) (held : ℕ → Bool) (n : ℕ) → held i ≡ true → i < n → tally (without i held) n + 1 ≡ tally held n
 tally_without i held zero f lt = absurd (omega arith)
 tally_without i held (suc n) f lt = grind (arith, nat_tests, λ (x : n ≡ i). tally_below held (without i held) n (λ k l. grind (arith, nat_tests)), tally_without i held n)
 
 -- a held slot lies in [1, fresh) and not on the chain
-held_inside : {B : Type 0} (kind : Kind B) (bs : List B) (root count fresh : ℕ) (held : ℕ → Bool) (chain : List ℕ) → Chained kind bs root count fresh held chain → (i : ℕ) → held i ≡ true → (0 < i) × (i < fresh) × (times i chain ≡ 0)
+pub held_inside : {B : Type 0} (kind : Kind B) (bs : List B) (root count fresh : ℕ) (held : ℕ → Bool) (chain : List ℕ) → Chained kind bs root count fresh held chain → (i : ℕ) → held i ≡ true → (0 < i) × (i < fresh) × (times i chain ≡ 0)
 held_inside kind bs root count fresh held chain s i h = grind (arith, nat_tests, s.at_nought, s.never i, s.once i)
 
 pub push : {B : Type 0} (kind : Kind B) → ((b : B) (n : ℕ) → kind.relink b 0 ≡ kind.blank → kind.relink (kind.relink b n) 0 ≡ kind.blank) → ((b : B) (n : ℕ) → kind.link (kind.relink b n) ≡ n) → (bs bs' : List B) (root count fresh : ℕ) (held : ℕ → Bool) (i : ℕ) → Sound kind bs root count fresh held → held i ≡ true → kind.relink (get_or bs i kind.blank) 0 ≡ kind.blank → bs' ≡ set bs i (kind.relink (get_or bs i kind.blank) root) → Gave kind bs root count fresh bs' i (count + 1) fresh held i

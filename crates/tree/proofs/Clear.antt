@@ -24,19 +24,19 @@ under s h i j q = grind (arith, slot0 s h i j)
 
 -- block (i, j) gives its slot back
 module _ (s s' : Tree) (i j m : ℕ) (fm : m < 2 ^ 64) (h : Shape s) (lj : j < 64) (q : 0 < slot2 s i j) (es : s'.level0.slots ≡ s.level0.slots) (e0 : s'.level0.mask ≡ s.level0.mask) (em : (a : ℕ) → a < 64 → bit m a ≡ bit (node s i).mask a - same a j) (gave : Gave data_kind s.«data».blocks.now s.«data».root_empty_block s.«data».empty_blocks_count s.«data».fresh s'.«data».blocks.now s'.«data».root_empty_block s'.«data».empty_blocks_count s'.«data».fresh (held_by (count2 s)) (slot2 s i j)) (wr : Wrote s.level1 s'.level1 (slot1 s i) (record { mask = m; slots = set (node s i).slots j 0 })) where
-  clear_here : slot2 s' i j ≡ 0
+  pub clear_here : slot2 s' i j ≡ 0
   clear_here = entry_here s s' i j m 0 h lj (under s h i j q) es wr
 
-  clear_there : (a b : ℕ) → ((a ≡ i) × (b ≡ j) → ⊥) → slot2 s' a b ≡ slot2 s a b
+  pub clear_there : (a b : ℕ) → ((a ≡ i) × (b ≡ j) → ⊥) → slot2 s' a b ≡ slot2 s a b
   clear_there = entry_there s s' i j m 0 h lj (under s h i j q) es wr
 
-  clear_count : (k : ℕ) → 0 < k → count2 s' k + same k (slot2 s i j) ≡ count2 s k
+  pub clear_count : (k : ℕ) → 0 < k → count2 s' k + same k (slot2 s i j) ≡ count2 s k
   clear_count k r = omega (arith, entry_count s s' i j m 0 h lj (under s h i j q) es wr k)
 
-  clear_words : (a b : ℕ) → ((a ≡ i) × (b ≡ j) → ⊥) → word s' a b ≡ word s a b
+  pub clear_words : (a b : ℕ) → ((a ≡ i) × (b ≡ j) → ⊥) → word s' a b ≡ word s a b
   clear_words a b ne = rw (gave.written, clear_there a b ne, get_or-set_other, apart2 s h a b i j ne q)
 
-  clear_word : word s' i j ≡ 0
+  pub clear_word : word s' i j ≡ 0
   clear_word = rw clear_here gave.sound.1.nought
 
   pub clear : Cleared s s' i j
@@ -65,16 +65,16 @@ bare_node s h i z = ap (λ m. record { mask = m; slots = (node s i).slots }) z �
 
 -- group i, whose block is empty, gives its slot back
 module _ (s s' : Tree) (i : ℕ) (h : Shape s) (li : i < 64) (p : 0 < slot1 s i) (z : (node s i).mask ≡ 0) (es : s'.level0.slots ≡ set s.level0.slots i 0) (ec : s'.«data» ≡ s.«data») (em : (a : ℕ) → a < 64 → bit s'.level0.mask a ≡ bit s.level0.mask a - same a i) (gave : Gave level1_kind s.level1.blocks.now s.level1.root_empty_block s.level1.empty_blocks_count s.level1.fresh s'.level1.blocks.now s'.level1.root_empty_block s'.level1.empty_blocks_count s'.level1.fresh (held_by (count1 s)) (slot1 s i)) where
-  shrink_here : slot1 s' i ≡ 0
+  pub shrink_here : slot1 s' i ≡ 0
   shrink_here = rw es (get_or-set_same s.level0.slots i 0 0 (omega (arith, h.long)))
 
-  shrink_there : (a : ℕ) → a ≢ i → slot1 s' a ≡ slot1 s a
+  pub shrink_there : (a : ℕ) → a ≢ i → slot1 s' a ≡ slot1 s a
   shrink_there a ne = rw es (get_or-set_other s.level0.slots i a 0 0 ne)
 
-  shrink_node : (a : ℕ) → node s' a ≡ node s a
+  pub shrink_node : (a : ℕ) → node s' a ≡ node s a
   shrink_node a = grind (arith, shrink_here, gave.sound.1.nought, bare_node s h i z, gave.written, shrink_there a, apart1 s h a i, get_or-set_other s.level1.blocks.now (slot1 s i) (slot1 s a) (level1_kind.relink (node s i) s.level1.root_empty_block) level1_kind.blank)
 
-  shrink_count : (k : ℕ) → 0 < k → count1 s' k + same k (slot1 s i) ≡ count1 s k
+  pub shrink_count : (k : ℕ) → 0 < k → count1 s' k + same k (slot1 s i) ≡ count1 s k
   shrink_count k r = omega (arith, shrink_here, total_change (λ a. same k (slot1 s a)) (λ a. same k (slot1 s' a)) 64 i li (λ a ne. rw (shrink_there a ne)))
 
   pub shrink : Shrunk s s' i

@@ -12,10 +12,10 @@ use Rattle.tree.proofs.Facts.{named1, inner1, within1, apart1}
 
 -- one entry of group i's block is written, with the block's mask
 module _ (s s' : Tree) (i j m v : ℕ) (h : Shape s) (lj : j < 64) (p : 0 < slot1 s i) (es : s'.level0.slots ≡ s.level0.slots) (wr : Wrote s.level1 s'.level1 (slot1 s i) (record { mask = m; slots = set (node s i).slots j v })) where
-  entry_node : node s' i ≡ record { mask = m; slots = set (node s i).slots j v }
+  pub entry_node : node s' i ≡ record { mask = m; slots = set (node s i).slots j v }
   entry_node = rw (wr.written, es, get_or-set_same, within1 s h i)
 
-  entry_other : (a : ℕ) → a ≢ i → node s' a ≡ node s a
+  pub entry_other : (a : ℕ) → a ≢ i → node s' a ≡ node s a
   entry_other a ne = rw (wr.written, es, get_or-set_other, apart1 s h a i ne p)
 
   pub entry_here : slot2 s' i j ≡ v

@@ -18,16 +18,16 @@ use Rattle.tree.proofs.Entry.{entry_here, entry_there, entry_count, entry_shape}
 
 -- block (i, j) had no slot and is given slot v
 module _ (s s' : Tree) (i j m v : ℕ) (fm : m < 2 ^ 64) (h : Shape s) (lj : j < 64) (p : 0 < slot1 s i) (z : slot2 s i j ≡ 0) (es : s'.level0.slots ≡ s.level0.slots) (e0 : s'.level0.mask ≡ s.level0.mask) (em : (a : ℕ) → a < 64 → bit m a ≡ max (bit (node s i).mask a) (same a j)) (got : Got data_kind s.«data».blocks.now s.«data».fresh s'.«data».blocks.now s'.«data».root_empty_block s'.«data».empty_blocks_count s'.«data».fresh (held_by (count2 s)) v) (wr : Wrote s.level1 s'.level1 (slot1 s i) (record { mask = m; slots = set (node s i).slots j v })) where
-  fill_here : slot2 s' i j ≡ v
+  pub fill_here : slot2 s' i j ≡ v
   fill_here = entry_here s s' i j m v h lj p es wr
 
-  fill_there : (a b : ℕ) → ((a ≡ i) × (b ≡ j) → ⊥) → slot2 s' a b ≡ slot2 s a b
+  pub fill_there : (a b : ℕ) → ((a ≡ i) × (b ≡ j) → ⊥) → slot2 s' a b ≡ slot2 s a b
   fill_there = entry_there s s' i j m v h lj p es wr
 
-  fill_word : (a b : ℕ) → word s' a b ≡ word s a b
+  pub fill_word : (a b : ℕ) → word s' a b ≡ word s a b
   fill_word a b = rw got.written (grind (arith, fill_here, fill_there a b, word0 s h a b, z, named2 s h a b, got.was_free, got.above, get_or-set_same s.«data».blocks.now v 0 0 got.within, get_or-set_other s.«data».blocks.now v (slot2 s' a b) 0 0))
 
-  fill_count : (k : ℕ) → 0 < k → count2 s' k ≡ count2 s k + same k v
+  pub fill_count : (k : ℕ) → 0 < k → count2 s' k ≡ count2 s k + same k v
   fill_count k q = omega (arith, z, entry_count s s' i j m v h lj p es wr k)
 
   pub fill : Filled s s' i j × (slot2 s' i j ≡ v)

@@ -36,16 +36,16 @@ module _ (s s' : Tree) (e : (a : ℕ) → node s' a ≡ node s a) (ec : s'.«dat
   }
 
 module _ (s s' : Tree) (i v : ℕ) (h : Shape s) (li : i < 64) (z : slot1 s i ≡ 0) (es : s'.level0.slots ≡ set s.level0.slots i v) (ec : s'.«data» ≡ s.«data») (em : (a : ℕ) → a < 64 → bit s'.level0.mask a ≡ max (bit s.level0.mask a) (same a i)) (got : Got level1_kind s.level1.blocks.now s.level1.fresh s'.level1.blocks.now s'.level1.root_empty_block s'.level1.empty_blocks_count s'.level1.fresh (held_by (count1 s)) v) where
-  grow_here : slot1 s' i ≡ v
+  pub grow_here : slot1 s' i ≡ v
   grow_here = rw es (get_or-set_same s.level0.slots i v 0 (omega (arith, h.long)))
 
-  grow_there : (a : ℕ) → a ≢ i → slot1 s' a ≡ slot1 s a
+  pub grow_there : (a : ℕ) → a ≢ i → slot1 s' a ≡ slot1 s a
   grow_there a ne = rw es (get_or-set_other s.level0.slots i a v 0 ne)
 
-  grow_node : (a : ℕ) → node s' a ≡ node s a
+  pub grow_node : (a : ℕ) → node s' a ≡ node s a
   grow_node a = rw got.written (grind (arith, grow_here, grow_there a, node0 s h a, z, named1 s h a, got.was_free, got.above, get_or-set_same s.level1.blocks.now v level1_kind.blank level1_kind.blank got.within, get_or-set_other s.level1.blocks.now v (slot1 s a) level1_kind.blank level1_kind.blank))
 
-  grow_count : (k : ℕ) → 0 < k → count1 s' k ≡ count1 s k + same k v
+  pub grow_count : (k : ℕ) → 0 < k → count1 s' k ≡ count1 s k + same k v
   grow_count k p = omega (arith, grow_here, z, total_change (λ a. same k (slot1 s a)) (λ a. same k (slot1 s' a)) 64 i li (λ a ne. rw (grow_there a ne)))
 
   pub grow : Grown s s' i

@@ -13,22 +13,22 @@ use Rattle.bits.proofs.Totals.{total_most}
 use Rattle.tree.proofs.Facts.{zeros}
 
 module _ (s : Tree) (es : s.level0.slots ≡ replicate 64 0) (e0 : s.level0.mask ≡ 0) (f1 : s.level1.fresh ≡ 1) (f2 : s.«data».fresh ≡ 1) (h1 : Holds level1_kind s.level1 (λ _. false)) (h2 : Holds data_kind s.«data» (λ _. false)) where
-  new_slot1 : (i : ℕ) → slot1 s i ≡ 0
+  pub new_slot1 : (i : ℕ) → slot1 s i ≡ 0
   new_slot1 i = rw es (zeros i)
 
-  new_node : (i : ℕ) → node s i ≡ level1_kind.blank
+  pub new_node : (i : ℕ) → node s i ≡ level1_kind.blank
   new_node i = rw (new_slot1 i) h1.1.nought
 
-  new_slot2 : (i j : ℕ) → slot2 s i j ≡ 0
+  pub new_slot2 : (i j : ℕ) → slot2 s i j ≡ 0
   new_slot2 i j = rw (new_node i) (zeros j)
 
   pub new_word : (i j : ℕ) → word s i j ≡ 0
   new_word i j = rw (new_slot2 i j) h2.1.nought
 
-  new_count1 : (k : ℕ) → 0 < k → count1 s k ≡ 0
+  pub new_count1 : (k : ℕ) → 0 < k → count1 s k ≡ 0
   new_count1 k p = omega (arith, total_most (λ i. same k (slot1 s i)) 64 0 (λ i l. omega (arith, new_slot1 i)))
 
-  new_count2 : (k : ℕ) → 0 < k → count2 s k ≡ 0
+  pub new_count2 : (k : ℕ) → 0 < k → count2 s k ≡ 0
   new_count2 k p = omega (arith, total_most (λ i. total (λ j. same k (slot2 s i j)) 64) 64 0 (λ i l. omega (arith, total_most (λ j. same k (slot2 s i j)) 64 0 (λ j r. omega (arith, new_slot2 i j)))))
 
   pub new_sound : Sound s

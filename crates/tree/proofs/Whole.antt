@@ -60,13 +60,13 @@ changed s s' f i j c x t lj ec q ex p fits e0 e1 wr =
 
 -- after a block gave its slot back
 module _ (s s' : Tree) (i j : ℕ) (t : Tight s) (c : Cleared s s' i j) where
-  cleared_word : word s' i j ≡ 0
+  pub cleared_word : word s' i j ≡ 0
   cleared_word = word0 s' c.shape i j c.gone
 
-  cleared_full : (a b : ℕ) → some (slot2 s' a b) ≡ some (word s' a b)
+  pub cleared_full : (a b : ℕ) → some (slot2 s' a b) ≡ some (word s' a b)
   cleared_full a b = grind (arith, c.gone, cleared_word, c.others a b, c.words a b, t.words_full a b)
 
-  cleared_group : (a : ℕ) → a ≢ i → some (slot1 s' a) ≡ some (row s' a)
+  pub cleared_group : (a : ℕ) → a ≢ i → some (slot1 s' a) ≡ some (row s' a)
   cleared_group a x = grind (arith, c.slots, row_same s s' a (λ b. c.words a b (λ q. x q.0)), t.groups_full a)
 
   -- other words of the group are left
