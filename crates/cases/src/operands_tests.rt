@@ -95,6 +95,7 @@ fn constants(rt: HostRuntime) {
     assert!(rt; constant_agrees(&or) && constant_agrees(&and));
     assert!(rt; constant_agrees(&Apply::new(Or, or, and)));
     assert!(rt; constant_agrees(&Apply::new(Or, v, band)));
+    assert!(rt; constant_agrees(&&v) && constant_agrees(&&band));
 }
 
 #[test]
